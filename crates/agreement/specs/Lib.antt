@@ -1,0 +1,3 @@
+-- One park, one list.
+pub mod History
+pub mod Claims

@@ -1,0 +1,1 @@
+// Demand 3: specs/ has the histories of a park and the claims about them, proofs/ the theorems; no function.

@@ -1,0 +1,3 @@
+-- Bytes, little-endian numbers, and formats of a fixed width.
+pub mod Number
+pub mod Codec

@@ -1,0 +1,1 @@
+// Little-endian numbers and formats of a fixed width: specs/ has the definitions.

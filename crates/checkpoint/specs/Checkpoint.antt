@@ -1,0 +1,51 @@
+-- The checkpoint, written and read.
+use Prim.Native.Nat.{ℕ}
+use mathlib.Core.List.{List}
+use mathlib.Core.Bool.{Bool, true, false, cond, _&&_}
+use lib.Dec.{eqb}
+use lib.ListN.{length, replicate}
+use Rattle.binary.specs.Number.{isRecord}
+use Rattle.state.specs.declared.State.{State}
+use Rattle.state.specs.Time.{cycle, day}
+use Rattle.state.specs.Seats.{freeSeat}
+use Rattle.state.specs.Proposals.{noProposal}
+use Rattle.state.specs.Logins.{noLogin}
+use Rattle.state.specs.WellFormed.{isWellFormed}
+use Rattle.checkpoint.specs.Format.{Counted, counted, checkpoint, body}
+use Rattle.checkpoint.specs.declared.CheckpointRead.{CheckpointRead}
+
+-- what a State in memory is: each number within its width, 32 seats, 16 proposals and 64 logins
+abbrev pub Fits : State → Type 0
+Fits s = body .Fits (counted s)
+
+unfoldable pub checkpointBytes : State → List ℕ
+checkpointBytes s = checkpoint .encode (1106, (16, counted s))
+
+-- the state and the two counts in a checkpoint's bytes
+unfoldable pub decodeCheckpoint : List ℕ → Counted
+decodeCheckpoint b = checkpoint .decode b .1 .1
+
+-- b is exactly one well-formed checkpoint
+unfoldable pub isCheckpoint : List ℕ → Bool
+isCheckpoint b =
+    let c = decodeCheckpoint b in
+    isRecord 1106 16 b
+    && ((eqb (c .proposals) (counted (c .state) .proposals) && eqb (c .logins) (counted (c .state) .logins)) && isWellFormed (c .state))
+
+-- a state that is not well formed, for where there is none
+unfoldable pub blankState : State
+blankState = record {
+  cycle = cycle 0;
+  day = day 0;
+  trustees1 = 0;
+  trustees2 = 0;
+  margin = 0;
+  least = 0;
+  silence = 0;
+  seats = replicate 32 freeSeat;
+  proposals = replicate 16 noProposal;
+  logins = replicate 64 noLogin;
+}
+
+unfoldable pub readCheckpoint : List ℕ → CheckpointRead
+readCheckpoint b = cond (isCheckpoint b) (record { ok = true; state = decodeCheckpoint b .state }) (record { ok = false; state = blankState })

@@ -1,0 +1,4 @@
+-- The checkpoint.
+pub mod Format
+pub mod Checkpoint
+pub mod Claims

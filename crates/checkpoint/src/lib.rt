@@ -1,0 +1,8 @@
+// The checkpoint: a state as 1,108 bytes.
+use state::State;
+
+// What reading a checkpoint gives: the state, or a blank one where the bytes are not a well-formed checkpoint.
+pub struct CheckpointRead {
+    pub ok: bool,
+    pub state: State,
+}

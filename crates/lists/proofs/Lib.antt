@@ -1,0 +1,2 @@
+-- Laws of the folds, and what `search` is handed.
+pub mod Cases

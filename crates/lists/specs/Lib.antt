@@ -1,0 +1,3 @@
+-- Folds over lists.
+pub mod Fold
+pub mod Table

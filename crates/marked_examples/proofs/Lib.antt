@@ -1,0 +1,2 @@
+-- The computed check.
+pub mod Examples

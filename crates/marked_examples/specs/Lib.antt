@@ -1,0 +1,3 @@
+-- The fourteen marked examples.
+pub mod Records
+pub mod Examples

@@ -1,0 +1,64 @@
+-- "Deliver. If no number from 1 to 14 applies and the sheet shows a quorum of the state before the action, the node performs it: cycle plus 1, day as
+-- announced, vote cleared, misses 0. Without a quorum it votes, unless 15 or 16 applies; the same 24 bytes later in that cycle get the same vote."
+use Prim.Native.Nat.{ℕ}
+use mathlib.Core.List.{List}
+use mathlib.Core.Bool.{Bool, cond, not}
+use lib.Dec.{eqb, leb}
+use Rattle.state.specs.declared.State.{State}
+use Rattle.state.specs.Seats.{quorumOf}
+use Rattle.records.specs.declared.Announcement.{Announcement}
+use Rattle.records.specs.declared.AnnouncementRead.{AnnouncementRead}
+use Rattle.records.specs.declared.AnnouncementRead.the-variants.{Read, Malformed}
+use Rattle.records.specs.Announcement.{readAnnouncement}
+use Rattle.records.specs.Sheet.{isSheet, level1, level2, rowsOf, countedSeats}
+use Rattle.actions.specs.Perform.{perform}
+use Rattle.actions.specs.Rules.{refuseIf, timeRefusal, actionRefusal, _orElse_}
+use Rattle.node.specs.declared.Node.{Node}
+use Rattle.node.specs.declared.DeliverReply.{DeliverReply}
+use Rattle.node.specs.declared.DeliverAnswer.the-variants.{Done, Voted, Refused}
+use Rattle.node.specs.Own.{isHalted, canVote, votedOtherwise, ownAfresh, withVote}
+
+-- rules 3 to 14 for an announcement with the sheet sb: the lowest number that applies, or 0
+unfoldable pub deliverRefusal : Node → Announcement → List ℕ → ℕ
+deliverRefusal n a sb =
+    refuseIf (isHalted n) 3
+    orElse timeRefusal (n .state) a
+    orElse actionRefusal (n .state) (a .day) (level1 sb) (level2 sb) (a .action)
+
+-- the sheet shows a quorum of this state
+unfoldable pub showsQuorum : State → List ℕ → Bool
+showsQuorum s sb = leb (quorumOf s) (countedSeats (rowsOf sb) (s .seats))
+
+-- rules 15 and 16 for the announcement's bytes ab
+unfoldable pub voteRefusal : Node → List ℕ → ℕ
+voteRefusal n ab = refuseIf (not (canVote n)) 15 orElse refuseIf (votedOtherwise n ab) 16
+
+abbrev pub refusesDelivery : Node → ℕ → DeliverReply
+refusesDelivery n k = record { node = n; answer = Refused k }
+
+abbrev pub performs : Node → Announcement → DeliverReply
+performs n a = record { node = record { state = perform (n .state) a; own = ownAfresh (n .own .seat) (n .own .life) }; answer = Done }
+
+abbrev pub votes : Node → List ℕ → DeliverReply
+votes n ab = record { node = record { state = n .state; own = withVote ab (n .own) }; answer = Voted }
+
+-- without a quorum: refused by k, or votes where k is 0
+abbrev pub withoutQuorum : Node → List ℕ → ℕ → DeliverReply
+withoutQuorum n ab k = cond (eqb k 0) (votes n ab) (refusesDelivery n k)
+
+-- a well-formed announcement a, whose bytes are ab, with the sheet sb
+unfoldable pub deliverRead : Node → List ℕ → Announcement → List ℕ → DeliverReply
+deliverRead n ab a sb =
+    let k = deliverRefusal n a sb in
+    cond (eqb k 0)
+    (cond (showsQuorum (n .state) sb) (performs n a) (withoutQuorum n ab (voteRefusal n ab)))
+    (refusesDelivery n k)
+
+-- 1 "record other than a sheet, checkpoint or image malformed", 2 "sheet malformed"
+abbrev pub deliverRecords : Node → List ℕ → AnnouncementRead → List ℕ → DeliverReply
+deliverRecords n ab Malformed sb = refusesDelivery n 1
+deliverRecords n ab (Read a) sb = cond (isSheet sb) (deliverRead n ab a sb) (refusesDelivery n 2)
+
+-- deliver, of a node and the two records' bytes
+unfoldable pub deliverOf : Node → List ℕ → List ℕ → DeliverReply
+deliverOf n ab sb = deliverRecords n ab (readAnnouncement ab) sb

@@ -1,0 +1,27 @@
+-- Each well-formed node has one image, and each image is of one node.
+use mathlib.Core.Path.{_≡_}
+use mathlib.Core.Bool.{true}
+use mathlib.Core.List.{List}
+use Prim.Native.Nat.{ℕ}
+use Rattle.binary.specs.Number.{Bytes}
+use Rattle.state.specs.WellFormed.{isWellFormed}
+use Rattle.node.specs.declared.Node.{Node}
+use Rattle.node_c.specs.Image.{Fits, isWellFormedOwn, imageBytes, isImage, readImage}
+
+-- a node as memory can hold it, with a well-formed state and a well-formed part of its own
+pub record WellFormedNode (n : Node) : Type 0 where
+  pub fits : Fits n
+  pub state : isWellFormed (n .state) ≡ true
+  pub own : isWellFormedOwn (n .state) (n .own) ≡ true
+
+-- What is written is accepted, and reading it gives the node back, for every well-formed node.
+abbrev pub NodeReadBack : Type 0
+NodeReadBack = (n : Node) → WellFormedNode n → readImage (imageBytes n) ≡ record { ok = true; node = n }
+
+-- What an accepted byte string is read as: a well-formed node, whose image is that byte string.
+pub record ReadNode (b : List ℕ) (n : Node) : Type 0 where
+  pub well-formed : WellFormedNode n
+  pub written-back : imageBytes n ≡ b
+
+abbrev pub ImageWrittenBack : Type 0
+ImageWrittenBack = (b : List ℕ) → Bytes b → isImage b ≡ true → ReadNode b (readImage b .node)

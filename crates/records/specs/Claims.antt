@@ -1,0 +1,67 @@
+-- What reading a record tells, and what a count of seats tells.
+use mathlib.Core.Path.{_≡_}
+use mathlib.Core.Bool.{true}
+use mathlib.Core.List.{List, List·Memᴰ}
+use Prim.Native.Nat.{ℕ, _+_, _*_, _^_, _≤_, _<_}
+use lib.ListN.{length}
+use Rattle.binary.specs.Number.{Bytes}
+use Rattle.state.specs.declared.Seat.{Seat}
+use Rattle.state.specs.declared.State.{State}
+use Rattle.state.specs.Seats.{present, presentSeats, quorumOf}
+use Rattle.state.specs.Subjects.{isSubject}
+use Rattle.records.specs.declared.Action.{Action}
+use Rattle.records.specs.declared.Action.the-variants.{Propose, Cancel, Presents, Certify, Minima, Remove, Rejoin, Grant, End}
+use Rattle.records.specs.declared.Announcement.{Announcement}
+use Rattle.records.specs.declared.AnnouncementRead.the-variants as A
+use Rattle.records.specs.declared.Row.{Row}
+use Rattle.records.specs.declared.Start.{Start}
+use Rattle.records.specs.declared.StartRead.the-variants as S
+use Rattle.records.specs.Announcement.{readAnnouncement}
+use Rattle.records.specs.Sheet.{counts, countedSeats, countedOnBoth}
+use Rattle.records.specs.StartQuery.{readStart}
+
+-- the ranges of each kind's arguments
+abbrev pub ActionInRange : Action → Type 0
+ActionInRange (Propose kind arguments) = (kind < 2 ^ 16) × (arguments < 2 ^ 64) × (isSubject kind arguments ≡ true)
+ActionInRange (Cancel c) = c .0 < 2 ^ 32
+ActionInRange (Presents i flag) = i < 32
+ActionInRange (Certify i life) = (i < 32) × (1 ≤ life) × (life < 2 ^ 32)
+ActionInRange (Minima m k S) = (m ≤ 7) × (1 ≤ k) × (k ≤ 32) × (1 ≤ S) × (S ≤ 365)
+ActionInRange (Remove i) = i < 32
+ActionInRange (Rejoin i life) = (i < 32) × (life < 2 ^ 32)
+ActionInRange (Grant x) = (1 ≤ x .login) × (x .login < 2 ^ 32) × (x .end .0 < 2 ^ 32) × (1 ≤ x .rights) × (x .rights < 2 ^ 16)
+ActionInRange (End login) = login < 2 ^ 32
+
+pub record AnnouncementInRange (a : Announcement) : Type 0 where
+  pub cycle : a .cycle .0 < 2 ^ 32
+  pub day : a .day .0 < 2 ^ 32
+  pub action : ActionInRange (a .action)
+
+-- An announcement that is read is 24 bytes long and within its ranges.
+abbrev pub AnnouncementsInRange : Type 0
+AnnouncementsInRange = (b : List ℕ) (a : Announcement) → Bytes b → readAnnouncement b ≡ A.Read a → (length b ≡ 24) × AnnouncementInRange a
+
+-- A start record that is read is within its ranges.
+abbrev pub StartsInRange : Type 0
+StartsInRange = (b : List ℕ) (x : Start) → Bytes b → readStart b ≡ S.Read x → (x .seat < 32) × (x .life < 2 ^ 32)
+
+-- Some row names seat i under its listed life, and the seat is present.
+pub record IsCounted (rows : List Row) (i : ℕ) (x : Seat) : Type 0 where
+  pub standing : x .standing ≡ present
+  pub row : Row
+  pub listed : List·Memᴰ row rows
+  pub seat : row .seat ≡ i
+  pub life : row .life ≡ x .life
+
+-- A seat counts exactly then.
+abbrev pub CountsListedLife : Type 0
+CountsListedLife = (rows : List Row) (i : ℕ) (x : Seat) → (counts rows i x ≡ true → IsCounted rows i x) × (IsCounted rows i x → counts rows i x ≡ true)
+
+-- A seat counts once: never more seats than are present.
+abbrev pub CountsOnce : Type 0
+CountsOnce = (rows : List Row) (seats : List Seat) → countedSeats rows seats ≤ presentSeats seats
+
+-- "Two quorums share at least 1+2m seats."
+abbrev pub QuorumsOverlap : Type 0
+QuorumsOverlap = (s : State) (a b : List Row) → quorumOf s ≤ countedSeats a (s .seats) → quorumOf s ≤ countedSeats b (s .seats)
+    → 1 + 2 * s .margin ≤ countedOnBoth a b (s .seats)

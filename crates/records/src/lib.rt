@@ -1,0 +1,60 @@
+// The records that a node is handed: announcement, sheet, start and query.
+use state::Cycle;
+use state::Day;
+use state::Login;
+
+// The nine actions, one case per kind, 1 to 9, with its arguments.
+pub enum Action {
+    // The subject: the kind of the proposed action, and its argument bytes as one little-endian number.
+    Propose { kind: u16, arguments: u64 },
+    Cancel { cycle: Cycle },
+    // To present where the flag is set, else back to certified.
+    Presents { seat: u8, flag: bool },
+    Certify { seat: u8, life: u32 },
+    Minima { margin: u8, least: u8, silence: u16 },
+    Remove { seat: u8 },
+    Rejoin { seat: u8, life: u32 },
+    Grant { row: Login },
+    End { login: u32 },
+}
+
+// What the park is asked to do in a cycle, announced on a day.
+pub struct Announcement {
+    pub cycle: Cycle,
+    pub day: Day,
+    pub action: Action,
+}
+
+pub enum AnnouncementRead {
+    Read(Announcement),
+    Malformed,
+}
+
+// A row of a sheet: a vote of that seat under that life, whose signature was checked.
+pub struct Row {
+    pub seat: u8,
+    pub life: u32,
+}
+
+// Which seat a node takes, and under which life.
+pub struct Start {
+    pub seat: u8,
+    pub life: u32,
+}
+
+pub enum StartRead {
+    Read(Start),
+    Malformed,
+}
+
+// May this login use this right on this day?
+pub struct Query {
+    pub login: u32,
+    pub day: Day,
+    pub right: u8,
+}
+
+pub enum QueryRead {
+    Read(Query),
+    Malformed,
+}

@@ -1,9 +1,7 @@
 -- "The nine actions": what each does to a state.
 use Prim.Native.Nat.{ℕ}
-use mathlib.Core.List.{List}
-use mathlib.Core.Bool.{Bool, cond}
+use mathlib.Core.Bool.{cond}
 use Rattle.state.specs.declared.Day.{Day}
-use Rattle.state.specs.declared.Seat.{Seat}
 use Rattle.state.specs.declared.State.{State}
 use Rattle.state.specs.Time.{nextCycle}
 use Rattle.state.specs.Update.{withTime, withMinima, withSeats, withProposals, withLogins}

@@ -1,6 +1,5 @@
 -- "The table of no", rules 4 to 14: the lowest number that applies to an announcement, or 0 where none does.
 use Prim.Native.Nat.{ℕ, _+_, _-_}
-use mathlib.Core.List.{List}
 use mathlib.Core.Bool.{Bool, cond, not, _&&_}
 use lib.Dec.{eqb, ltb, leb}
 use Rattle.state.specs.declared.Day.{Day}

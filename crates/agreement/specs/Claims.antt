@@ -4,7 +4,7 @@ use mathlib.Core.Path.{_≡_}
 use mathlib.Core.Logic.{_≢_, _⊎_}
 use mathlib.Core.Bool.{true}
 use mathlib.Core.List.{List, [], _++_, _∷_, List·Memᴰ}
-use mathlib.Core.Option.{Option, some}
+use mathlib.Core.Option.{some}
 use Prim.Native.Nat.{ℕ, _+_, _*_, _≤_, _<_}
 use Rattle.binary.specs.Number.{Bytes}
 use Rattle.state.specs.declared.Login.{Login}
@@ -21,7 +21,7 @@ use Rattle.checkpoint.specs.Checkpoint.{checkpointBytes, isCheckpoint}
 use Rattle.node.specs.declared.Node.{Node}
 use Rattle.node_c.specs.Image.{imageBytes, readImage}
 use Rattle.node_c.specs.Claims.{WellFormedNode}
-use Rattle.agreement.specs.History.{Host, Call, start, deliver, query, checkpoint, History, Moment, moments, momentsFrom, answer, after, nodeAt, run, empty, Cluster}
+use Rattle.agreement.specs.History.{Host, Call, start, deliver, query, checkpoint, History, Moment, moments, answer, after, nodeAt, run, empty, Cluster}
 
 -- t is a moment of the history
 abbrev pub _∈_ : Moment → History → Type 0
@@ -132,11 +132,11 @@ runAll w [] = w
 runAll w (c ∷ cs) = runAll (run w c .after) cs
 
 -- A moment is a call of the list together with the cluster that the calls before it left: a prefix of the list.
-pub record Prefix (calls : History) (t : Moment) : Type 0 where
+pub record Prefix (from : Cluster) (calls : History) (t : Moment) : Type 0 where
   pub earlier : History
   pub later : History
   pub list : calls ≡ earlier ++ (t .call ∷ later)
-  pub cluster : t .before ≡ runAll empty earlier
+  pub cluster : t .before ≡ runAll from earlier
 
 abbrev pub MomentsArePrefixes : Type 0
-MomentsArePrefixes = (calls : History) (t : Moment) → t ∈ calls → Prefix calls t
+MomentsArePrefixes = (calls : History) (t : Moment) → t ∈ calls → Prefix empty calls t

@@ -1,18 +1,15 @@
 -- "The list holds start, deliver, query and checkpoint calls, each at one of any number of hubs": what they leave behind, run from empty hubs.
-use mathlib.Core.Bool.{Bool, cond}
+use mathlib.Core.Bool.{cond}
 use mathlib.Core.List.{List, [], _∷_}
 use mathlib.Core.Option.{Option, none, some}
 use Prim.Native.Nat.{ℕ}
 use lib.Dec.{eqb}
 use lib.ListN.{take}
 use Rattle.node.specs.declared.Node.{Node}
-use Rattle.node.specs.Answers.{startNumber, deliverNumber, queryNumber, checkpointNumber}
-use Rattle.node.specs.Start.{startOf}
-use Rattle.node.specs.Deliver.{deliverOf}
-use Rattle.node.specs.Query.{queryOf}
+use Rattle.node.specs.Answers.{checkpointNumber}
 use Rattle.node.specs.Give.{checkpointSize, checkpointOf, checkpointSlice}
 use Rattle.node_c.specs.Image.{imageSize, readImage}
-use Rattle.node_c.specs.Calls.{Returned, writesImage, nodeStart, nodeDeliver, nodeQuery, nodeCheckpoint}
+use Rattle.node_c.specs.Calls.{HandedBack, started, delivered, asked, Returned, writesImage, nodeStart, nodeDeliver, nodeQuery, nodeCheckpoint}
 
 -- A host (01: hub). "a hub's calls are all by value or all through C": its name says which.
 pub data Host : Type 0 where
@@ -73,36 +70,23 @@ answers k w = record { answer = some k; after = w }
 abbrev pub unanswered : Cluster → Outcome
 unanswered w = record { answer = none; after = w }
 
--- "C hands on the image it last got."
+-- a call by value on the node that host i holds
+abbrev pub onNode : Cluster → ℕ → (Node → HandedBack) → Option Node → Outcome
+onNode w i f none = unanswered w
+onNode w i f (some n) = answers (f n .number) (putNode w i (f n .node))
+
+-- what a call for C left at host i: "C hands on the image it last got."
 abbrev pub keepImage : Cluster → ℕ → Returned → Outcome
 keepImage w i r = answers (r .number) (cond (writesImage (r .number)) (putImage w i (take imageSize (r .slice))) w)
+
+-- a call for C on the image that host i holds
+abbrev pub onHeldImage : Cluster → ℕ → (List ℕ → Returned) → Option (List ℕ) → Outcome
+onHeldImage w i f none = unanswered w
+onHeldImage w i f (some b) = keepImage w i (f b)
 
 -- the bytes that a checkpoint call "wrote as its checkpoint"
 abbrev pub keepCheckpoint : Cluster → ℕ → List ℕ → Outcome
 keepCheckpoint w k slice = answers k (cond (eqb k 0) (give w (take checkpointSize slice)) w)
-
--- "a refused start leaves the hub as it was"
-abbrev pub startAt : Cluster → Host → List ℕ → List ℕ → List ℕ → Outcome
-startAt w (byValue i) cb rb out =
-    let r = startOf cb rb in
-    answers (startNumber (r .answer)) (cond (eqb (startNumber (r .answer)) 0) (putNode w i (r .node)) w)
-startAt w (throughC i) cb rb out = keepImage w i (nodeStart cb rb out)
-
-abbrev pub deliverNode : Cluster → ℕ → List ℕ → List ℕ → Option Node → Outcome
-deliverNode w i ab sb none = unanswered w
-deliverNode w i ab sb (some n) = answers (deliverNumber (deliverOf n ab sb .answer)) (putNode w i (deliverOf n ab sb .node))
-
-abbrev pub deliverImage : Cluster → ℕ → List ℕ → List ℕ → List ℕ → Option (List ℕ) → Outcome
-deliverImage w i ab sb out none = unanswered w
-deliverImage w i ab sb out (some b) = keepImage w i (nodeDeliver b ab sb out)
-
-abbrev pub queryNode : Cluster → ℕ → List ℕ → Option Node → Outcome
-queryNode w i qb none = unanswered w
-queryNode w i qb (some n) = answers (queryNumber (queryOf n qb .answer)) (putNode w i (queryOf n qb .node))
-
-abbrev pub queryImage : Cluster → ℕ → List ℕ → List ℕ → Option (List ℕ) → Outcome
-queryImage w i qb out none = unanswered w
-queryImage w i qb out (some b) = keepImage w i (nodeQuery b qb out)
 
 abbrev pub checkpointNode : Cluster → List ℕ → Option Node → Outcome
 checkpointNode w out none = unanswered w
@@ -112,13 +96,14 @@ abbrev pub checkpointImage : Cluster → List ℕ → Option (List ℕ) → Outc
 checkpointImage w out none = unanswered w
 checkpointImage w out (some b) = keepCheckpoint w (nodeCheckpoint b out .number) (nodeCheckpoint b out .slice)
 
--- "Every call but start gets the node or image that the last one at its hub left"
+-- "Every call but start gets the node or image that the last one at its hub left; a refused start leaves the hub as it was."
 unfoldable pub run : Cluster → Call → Outcome
-run w (start h cb rb out) = startAt w h cb rb out
-run w (deliver (byValue i) ab sb out) = deliverNode w i ab sb (w .nodes i)
-run w (deliver (throughC i) ab sb out) = deliverImage w i ab sb out (w .images i)
-run w (query (byValue i) qb out) = queryNode w i qb (w .nodes i)
-run w (query (throughC i) qb out) = queryImage w i qb out (w .images i)
+run w (start (byValue i) cb sb out) = let r = started cb sb in answers (r .number) (cond (eqb (r .number) 0) (putNode w i (r .node)) w)
+run w (start (throughC i) cb sb out) = keepImage w i (nodeStart cb sb out)
+run w (deliver (byValue i) ab sb out) = onNode w i (delivered ab sb) (w .nodes i)
+run w (deliver (throughC i) ab sb out) = onHeldImage w i (λ b. nodeDeliver b ab sb out) (w .images i)
+run w (query (byValue i) qb out) = onNode w i (asked qb) (w .nodes i)
+run w (query (throughC i) qb out) = onHeldImage w i (λ b. nodeQuery b qb out) (w .images i)
 run w (checkpoint (byValue i) out) = checkpointNode w out (w .nodes i)
 run w (checkpoint (throughC i) out) = checkpointImage w out (w .images i)
 

@@ -1,3 +1,4 @@
 -- One park, one list.
 pub mod History
 pub mod Claims
+pub mod NotIdle

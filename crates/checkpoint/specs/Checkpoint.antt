@@ -3,7 +3,7 @@ use Prim.Native.Nat.{ℕ}
 use mathlib.Core.List.{List}
 use mathlib.Core.Bool.{Bool, true, false, cond, _&&_}
 use lib.Dec.{eqb}
-use lib.ListN.{length, replicate}
+use lib.ListN.{replicate}
 use Rattle.binary.specs.Number.{isRecord}
 use Rattle.state.specs.declared.State.{State}
 use Rattle.state.specs.Time.{cycle, day}

@@ -1,2 +1,6 @@
--- Laws of the folds, and what `search` is handed.
+-- Laws of the folds and tables, and what `search` is handed.
 pub mod Cases
+pub mod Tests
+pub mod Every
+pub mod Tables
+pub mod Count

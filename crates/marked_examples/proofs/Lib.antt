@@ -1,2 +1,3 @@
 -- The computed check.
+pub mod Compute
 pub mod Examples

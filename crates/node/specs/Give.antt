@@ -1,7 +1,7 @@
 -- "A halted node still gives its checkpoint." 22 "output slice shorter than 1,108 (checkpoint) ...; longer ones keep their tail"
 use Prim.Native.Nat.{ℕ}
 use mathlib.Core.List.{List}
-use mathlib.Core.Bool.{Bool, cond}
+use mathlib.Core.Bool.{cond}
 use lib.Dec.{leb}
 use lib.ListN.{length}
 use Rattle.binary.specs.Number.{overwrite}

@@ -5,3 +5,4 @@ pub mod Deliver
 pub mod Query
 pub mod Start
 pub mod Give
+pub mod Claims

@@ -5,7 +5,6 @@ use mathlib.Core.Bool.{Bool, true, false, not, _&&_}
 use lib.Dec.{eqb}
 use lib.ListN.{replicate}
 use Rattle.state.specs.declared.Seat.{Seat}
-use Rattle.state.specs.declared.State.{State}
 use Rattle.state.specs.Seats.{retired, seatAt, isPresent}
 use Rattle.node.specs.declared.Own.{Own}
 use Rattle.node.specs.declared.Node.{Node}

@@ -1,9 +1,8 @@
 -- "Query. Let t be the later of given and agreed day. Open when nothing below applies. 19, 20 and 21 add a miss; open sets misses to 0; 17 and 18 don't touch them."
 use Prim.Native.Nat.{ℕ, _+_}
 use mathlib.Core.List.{List}
-use mathlib.Core.Bool.{Bool, cond, not}
+use mathlib.Core.Bool.{cond, not}
 use lib.Dec.{eqb, ltb, leb}
-use Rattle.state.specs.declared.State.{State}
 use Rattle.state.specs.Time.{isBeforeDay, daysSince, laterDay}
 use Rattle.state.specs.Logins.{isLogin, findLogin, holdsRight}
 use Rattle.records.specs.declared.Query.{Query}

@@ -13,11 +13,26 @@ use Rattle.node.specs.Query.{queryOf}
 use Rattle.node.specs.Give.{checkpointOf, checkpointSlice}
 use Rattle.node_c.specs.Image.{imageSize, imageBytes, readImage}
 
+-- what a call by value hands back: a node, and its answer's number
+pub record HandedBack : Type 0 where
+  pub node : Node
+  pub number : ℕ
+
+abbrev pub started : List ℕ → List ℕ → HandedBack
+started checkpoint start = record { node = startOf checkpoint start .node; number = startNumber (startOf checkpoint start .answer) }
+
+abbrev pub delivered : List ℕ → List ℕ → Node → HandedBack
+delivered announcement sheet n = record { node = deliverOf n announcement sheet .node; number = deliverNumber (deliverOf n announcement sheet .answer) }
+
+abbrev pub asked : List ℕ → Node → HandedBack
+asked query n = record { node = queryOf n query .node; number = queryNumber (queryOf n query .answer) }
+
+-- what a call for C returns, and what its output slice then holds
 pub record Returned : Type 0 where
   pub number : ℕ
   pub slice : List ℕ
 
--- "Calls that write a slice also try 22, straight after 1 and 2.": the call's number k, where the slice has room or not
+-- "Calls that write a slice also try 22, straight after 1 and 2.": the number k of a call, where its slice has room or not
 abbrev pub tryRoom : Bool → ℕ → ℕ
 tryRoom room k = cond (eqb k 1 || eqb k 2) k (cond room k 22)
 
@@ -25,36 +40,28 @@ tryRoom room k = cond (eqb k 1 || eqb k 2) k (cond room k 22)
 abbrev pub writesImage : ℕ → Bool
 writesImage k = eqb k 0 || (eqb k 128 || (leb 19 k && leb k 21))
 
--- a call by value gave this node and this number
-unfoldable pub return : Node → ℕ → List ℕ → Returned
-return n k out =
-    let r = tryRoom (leb imageSize (length out)) k in
-    record { number = r; slice = cond (writesImage r) (overwrite (imageBytes n) out) out }
+-- the call for C over a call by value
+unfoldable pub return : HandedBack → List ℕ → Returned
+return r out =
+    let k = tryRoom (leb imageSize (length out)) (r .number) in
+    record { number = k; slice = cond (writesImage k) (overwrite (imageBytes (r .node)) out) out }
 
--- 1 "checkpoint or image malformed"
-abbrev pub refusesImage : List ℕ → Returned
-refusesImage out = record { number = 1; slice = out }
+-- the same for a call on the node in an image; 1 "checkpoint or image malformed"
+unfoldable pub onImage : (Node → HandedBack) → List ℕ → List ℕ → Returned
+onImage f image out = cond (readImage image .ok) (return (f (readImage image .node)) out) (record { number = 1; slice = out })
 
 unfoldable pub nodeStart : List ℕ → List ℕ → List ℕ → Returned
-nodeStart checkpoint start out =
-    let r = startOf checkpoint start in
-    return (r .node) (startNumber (r .answer)) out
+nodeStart checkpoint start out = return (started checkpoint start) out
 
 unfoldable pub nodeDeliver : List ℕ → List ℕ → List ℕ → List ℕ → Returned
-nodeDeliver image announcement sheet out =
-    let i = readImage image in
-    let r = deliverOf (i .node) announcement sheet in
-    cond (i .ok) (return (r .node) (deliverNumber (r .answer)) out) (refusesImage out)
+nodeDeliver image announcement sheet out = onImage (delivered announcement sheet) image out
 
 unfoldable pub nodeQuery : List ℕ → List ℕ → List ℕ → Returned
-nodeQuery image query out =
-    let i = readImage image in
-    let r = queryOf (i .node) query in
-    cond (i .ok) (return (r .node) (queryNumber (r .answer)) out) (refusesImage out)
+nodeQuery image query out = onImage (asked query) image out
 
 unfoldable pub nodeCheckpoint : List ℕ → List ℕ → Returned
 nodeCheckpoint image out =
-    let i = readImage image in
-    cond (i .ok)
-    (record { number = checkpointNumber (checkpointOf (i .node) out .answer); slice = checkpointSlice (i .node) out })
-    (refusesImage out)
+    let n = readImage image .node in
+    cond (readImage image .ok)
+    (record { number = checkpointNumber (checkpointOf n out .answer); slice = checkpointSlice n out })
+    (record { number = 1; slice = out })

@@ -6,6 +6,10 @@ use Prim.Native.Nat.{ℕ}
 use Rattle.binary.specs.Number.{Bytes}
 use Rattle.state.specs.WellFormed.{isWellFormed}
 use Rattle.node.specs.declared.Node.{Node}
+use Rattle.node.specs.declared.StartAnswer.the-variants.{Started}
+use Rattle.node.specs.Start.{startOf}
+use Rattle.node.specs.Deliver.{deliverOf}
+use Rattle.node.specs.Query.{queryOf}
 use Rattle.node_c.specs.Image.{Fits, isWellFormedOwn, imageBytes, isImage, readImage}
 
 -- a node as memory can hold it, with a well-formed state and a well-formed part of its own
@@ -25,3 +29,14 @@ pub record ReadNode (b : List ℕ) (n : Node) : Type 0 where
 
 abbrev pub ImageWrittenBack : Type 0
 ImageWrittenBack = (b : List ℕ) → Bytes b → isImage b ≡ true → ReadNode b (readImage b .node)
+
+-- ---- no call by value hands back a node that is not well formed
+
+abbrev pub StartMakesWellFormed : Type 0
+StartMakesWellFormed = (cb sb : List ℕ) → Bytes cb → Bytes sb → startOf cb sb .answer ≡ Started → WellFormedNode (startOf cb sb .node)
+
+abbrev pub DeliverKeepsWellFormed : Type 0
+DeliverKeepsWellFormed = (n : Node) (ab sb : List ℕ) → Bytes ab → WellFormedNode n → WellFormedNode (deliverOf n ab sb .node)
+
+abbrev pub QueryKeepsWellFormed : Type 0
+QueryKeepsWellFormed = (n : Node) (qb : List ℕ) → WellFormedNode n → WellFormedNode (queryOf n qb .node)

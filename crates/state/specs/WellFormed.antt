@@ -1,6 +1,5 @@
 -- Which states are well formed: "ranges as above; cycle at least 1; quorum at most p; proposals in strictly rising cycle below the cycle, day at most
 -- the agreed day, arguments well formed; logins at least 1 and strictly rising, rights not zero"
-use Prim.Native.Nat.{ℕ}
 use mathlib.Core.List.{List}
 use mathlib.Core.Bool.{Bool, cond, not, _&&_}
 use lib.Dec.{eqb, leb}

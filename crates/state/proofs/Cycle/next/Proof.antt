@@ -2,8 +2,6 @@ use Rattle.lists.proofs.Cases.{cases}
 use borrow.Author.Needs.{needs}
 use Rattle.state.proofs.Cycle.next.Statement.{statement}
 use Rattle.state.proofs.Cycle.next.Tie as tie
-use Rattle.state.proofs.Cycle.next.Reads as reads
-use Rattle.state.proofs.Cycle.next.Lts as lts
 
 -- src/lib.rt:90:40
 add-t4 : tie.Need-add-t4

@@ -1,8 +1,6 @@
 use Rattle.lists.proofs.Cases.{cases}
 use Rattle.state.proofs.Day.later.Statement.{statement}
 use Rattle.state.proofs.Day.later.Tie as tie
-use Rattle.state.proofs.Day.later.Reads as reads
-use Rattle.state.proofs.Day.later.Lts as lts
 
 -- src/lib.rt:66:5
 returns : tie.Need-returns

@@ -1,0 +1,6 @@
+-- What a performed announcement leaves.
+pub mod Refusals
+pub mod Rows
+pub mod Sound
+pub mod Kept
+pub mod Perform

@@ -1,0 +1,277 @@
+-- What a call leaves at its host, by value and through C.
+use mathlib.Core.Path.{_≡_, refl, sym, ap, _∙_}
+use mathlib.Core.Logic.{_⊎_, inl, inr}
+use mathlib.Core.Bool.{Bool, true, false, cond, _||_, true≢false}
+use mathlib.Core.List.{List}
+use mathlib.Core.Option.{Option, none, some, Option·some-injective}
+use Prim.Native.Nat.{ℕ, _≤_}
+use native.Mathlib.Omega.{arith}
+use lib.Dec.{eqb, leb}
+use lib.ListN.{length, take, drop}
+use lib.Seq.{take-at}
+use borrow.Author.Tests.{ne-eqb, lt-leb}
+use Rattle.binary.specs.Number.{overwrite}
+use Rattle.checkpoint.specs.Checkpoint.{checkpointBytes}
+use Rattle.checkpoint.proofs.Checkpoint.{checkpoint-length}
+use Rattle.node.specs.declared.Node.{Node}
+use Rattle.node.specs.declared.CheckpointAnswer.the-variants.{Given, Refused}
+use Rattle.node.specs.Answers.{checkpointNumber}
+use Rattle.node.specs.Give.{checkpointSize, checkpointOf, checkpointSlice}
+use Rattle.node_c.specs.Image.{imageSize, imageBytes, readImage}
+use Rattle.node_c.specs.Claims.{WellFormedNode}
+use Rattle.node_c.proofs.Image.{image-length}
+use Rattle.node_c.specs.Calls.{HandedBack, delivered, asked, started, Returned, tryRoom, writesImage, return, onImage, nodeStart, nodeDeliver, nodeQuery, nodeCheckpoint}
+use Rattle.agreement.specs.History.{Host, byValue, throughC, start, deliver, query, checkpoint, Cluster, Outcome, imageNode, nodeAt, putNode, putImage, answers, onNode, onHeldImage, keepImage, give, keepCheckpoint, checkpointNode, checkpointImage, run}
+
+-- the cluster with this node at the host
+abbrev pub leave : Cluster → Host → Node → Cluster
+leave w (byValue i) n = putNode w i n
+leave w (throughC i) n = putImage w i (imageBytes n)
+
+-- ---- a call on the node that a host holds
+
+-- by value or through C
+abbrev pub onHost : Cluster → Host → (Node → HandedBack) → List ℕ → Outcome
+onHost w (byValue i) f out = onNode w i f (w .nodes i)
+onHost w (throughC i) f out = onHeldImage w i (λ b. onImage f b out) (w .images i)
+
+pub run-deliver : (w : Cluster) (h : Host) (ab sb out : List ℕ) → run w (deliver h ab sb out) ≡ onHost w h (delivered ab sb) out
+unfolding run nodeDeliver
+run-deliver w (byValue i) ab sb out = refl
+run-deliver w (throughC i) ab sb out = refl
+
+pub run-query : (w : Cluster) (h : Host) (qb out : List ℕ) → run w (query h qb out) ≡ onHost w h (asked qb) out
+unfolding run nodeQuery
+run-query w (byValue i) qb out = refl
+run-query w (throughC i) qb out = refl
+
+-- ---- what a call for C returns
+
+-- a slice without room gives 22, or leaves the number
+room-cases : (room : Bool) (k : ℕ) → (tryRoom room k ≡ k) ⊎ (tryRoom room k ≡ 22)
+room-cases room k = go (eqb k 1 || eqb k 2) room
+  where
+    go : (t r : Bool) → (cond t k (cond r k 22) ≡ k) ⊎ (cond t k (cond r k 22) ≡ 22)
+    go true r = inl refl
+    go false true = inl refl
+    go false false = inr refl
+
+-- a number that is 0 is that of the call by value
+returned-zero : (r : HandedBack) (out : List ℕ) → return r out .number ≡ 0 → r .number ≡ 0
+unfolding return
+returned-zero r out e = go (room-cases (leb imageSize (length out)) (r .number))
+  where
+    k : ℕ
+    k = tryRoom (leb imageSize (length out)) (r .number)
+
+    go : (k ≡ r .number) ⊎ (k ≡ 22) → r .number ≡ 0
+    go (inl f) = sym f ∙ e
+    go (inr f) = absurd (omega arith)
+
+-- no image is written, or the one of the node that the call by value handed back, with its number
+returns : (r : HandedBack) (out : List ℕ) → (writesImage (return r out .number) ≡ false)
+    ⊎ ((writesImage (r .number) ≡ true) × (return r out ≡ record { number = r .number; slice = overwrite (imageBytes (r .node)) out }))
+unfolding return
+returns r out = go (room-cases room (r .number)) (writesImage (r .number)) refl
+  where
+    room : Bool
+    room = leb imageSize (length out)
+
+    -- with this number, where the image is written or not
+    with : ℕ → Bool → Returned
+    with k b = record { number = k; slice = cond b (overwrite (imageBytes (r .node)) out) out }
+
+    go : (tryRoom room (r .number) ≡ r .number) ⊎ (tryRoom room (r .number) ≡ 22) → (t : Bool) → writesImage (r .number) ≡ t
+        → (writesImage (tryRoom room (r .number)) ≡ false) ⊎ ((writesImage (r .number) ≡ true) × (return r out ≡ with (r .number) true))
+    go (inl e) true h = inr (h, ap (λ (k : ℕ). with k (writesImage k)) e ∙ ap (with (r .number)) h)
+    go (inl e) false h = inl (ap writesImage e ∙ h)
+    go (inr e) t h = inl (ap writesImage e)
+
+-- the front of a slice that bytes were written to
+front : (bytes out : List ℕ) (n : ℕ) → length bytes ≡ n → take n (overwrite bytes out) ≡ bytes
+unfolding overwrite
+front bytes out n e = take-at bytes (drop (length bytes) out) n e
+
+-- the host's image is as it was, or that of the node that the call by value handed back
+pub kept : (w : Cluster) (i : ℕ) (r : HandedBack) (out : List ℕ) → (writesImage (r .number) ≡ true → WellFormedNode (r .node))
+    → (keepImage w i (return r out) .after ≡ w)
+    ⊎ ((writesImage (r .number) ≡ true) × (keepImage w i (return r out) ≡ answers (r .number) (putImage w i (imageBytes (r .node)))))
+kept w i r out fine = go (returns r out)
+  where
+    -- after these bytes are kept or not
+    held : Bool → List ℕ → Cluster
+    held b image = cond b (putImage w i image) w
+
+    go : (writesImage (return r out .number) ≡ false)
+        ⊎ ((writesImage (r .number) ≡ true) × (return r out ≡ record { number = r .number; slice = overwrite (imageBytes (r .node)) out }))
+        → (keepImage w i (return r out) .after ≡ w)
+        ⊎ ((writesImage (r .number) ≡ true) × (keepImage w i (return r out) ≡ answers (r .number) (putImage w i (imageBytes (r .node)))))
+    go (inl e) = inl (ap (λ (b : Bool). held b (take imageSize (return r out .slice))) e)
+    go (inr p) = inr (
+      p .0,
+      ap (keepImage w i) (p .1)
+          ∙ ap (λ (b : Bool). answers (r .number) (held b (take imageSize (overwrite (imageBytes (r .node)) out)))) (p .0)
+          ∙ ap (λ (image : List ℕ). answers (r .number) (putImage w i image)) (front (imageBytes (r .node)) out imageSize (image-length (r .node) (fine (p .0) .fits))),
+    )
+
+-- ---- a call on the node that a host holds
+
+-- the node that a held image is read as
+held-image : (b : List ℕ) (n : Node) → imageNode (some b) ≡ some n → (readImage b .ok ≡ true) × (readImage b .node ≡ n)
+held-image b n = go (readImage b .ok) refl
+  where
+    go : (t : Bool) → readImage b .ok ≡ t → cond t (some (readImage b .node)) none ≡ some n → (readImage b .ok ≡ true) × (readImage b .node ≡ n)
+    go true e f = (e, Option·some-injective (readImage b .node) n f)
+    go false e f = absurd (let z : _≡_ {A = ℕ} 0 1 = cc in omega arith)
+
+on-image : (f : Node → HandedBack) (b out : List ℕ) (n : Node) → imageNode (some b) ≡ some n → onImage f b out ≡ return (f n) out
+unfolding onImage
+on-image f b out n e = let h = held-image b n e in rw (h .0, h .1)
+
+unread : (f : Node → HandedBack) (b out : List ℕ) → readImage b .ok ≡ false → onImage f b out ≡ record { number = 1; slice = out }
+unfolding onImage
+unread f b out e = rw e
+
+-- a call that is answered 0 handed back 0
+pub heard : (w : Cluster) (h : Host) (f : Node → HandedBack) (out : List ℕ) (n : Node) → nodeAt w h ≡ some n → onHost w h f out .answer ≡ some 0 → f n .number ≡ 0
+heard w (byValue i) f out n e a = Option·some-injective (f n .number) 0 (ap (λ (o : Option Node). onNode w i f o .answer) (sym e) ∙ a)
+heard w (throughC i) f out n e a = go (w .images i) e a
+  where
+    go : (o : Option (List ℕ)) → imageNode o ≡ some n → onHeldImage w i (λ b. onImage f b out) o .answer ≡ some 0 → f n .number ≡ 0
+    go none e a = absurd (let z : _≡_ {A = ℕ} 0 1 = cc in omega arith)
+    go (some b) e a = returned-zero (f n) out (ap (λ (r : Returned). r .number) (sym (on-image f b out n e)) ∙ Option·some-injective (onImage f b out .number) 0 a)
+
+-- the host holds a node, and the call leaves what f hands back of it, with its number as the answer
+pub record Left (w : Cluster) (h : Host) (f : Node → HandedBack) (x : Outcome) : Type 0 where
+  pub node : Node
+  pub held : nodeAt w h ≡ some node
+  pub after : x .after ≡ leave w h (f node .node)
+  pub answered : x .answer ≡ some (f node .number)
+
+-- a call leaves the cluster as it was, or what f hands back
+pub ran : (w : Cluster) (h : Host) (f : Node → HandedBack) (out : List ℕ) → ((n : Node) → nodeAt w h ≡ some n → WellFormedNode (f n .node))
+    → (onHost w h f out .after ≡ w) ⊎ Left w h f (onHost w h f out)
+ran w (byValue i) f out fine = go (w .nodes i) refl
+  where
+    go : (o : Option Node) → w .nodes i ≡ o → (onNode w i f o .after ≡ w) ⊎ Left w (byValue i) f (onNode w i f o)
+    go none e = inl refl
+    go (some n) e = inr (record { node = n; held = e; after = refl; answered = refl })
+ran w (throughC i) f out fine = go (w .images i) refl
+  where
+    g : List ℕ → Returned
+    g b = onImage f b out
+
+    go : (o : Option (List ℕ)) → w .images i ≡ o → (onHeldImage w i g o .after ≡ w) ⊎ Left w (throughC i) f (onHeldImage w i g o)
+    go none e = inl refl
+    go (some b) e = read (readImage b .ok) refl
+      where
+        x : Outcome
+        x = keepImage w i (onImage f b out)
+
+        -- the image is read as n
+        with : (n : Node) → nodeAt w (throughC i) ≡ some n → onImage f b out ≡ return (f n) out
+            → (keepImage w i (return (f n) out) .after ≡ w)
+            ⊎ ((writesImage (f n .number) ≡ true) × (keepImage w i (return (f n) out) ≡ answers (f n .number) (putImage w i (imageBytes (f n .node)))))
+            → (x .after ≡ w) ⊎ Left w (throughC i) f x
+        with n held q (inl k) = inl (ap (λ (r : Returned). keepImage w i r .after) q ∙ k)
+        with n held q (inr k) =
+            let y : x ≡ answers (f n .number) (putImage w i (imageBytes (f n .node))) = ap (keepImage w i) q ∙ k .1 in
+            inr (record { node = n; held = held; after = ap (λ (z : Outcome). z .after) y; answered = ap (λ (z : Outcome). z .answer) y })
+
+        read : (t : Bool) → readImage b .ok ≡ t → (x .after ≡ w) ⊎ Left w (throughC i) f x
+        read true t =
+            let n = readImage b .node in
+            let is : imageNode (some b) ≡ some n = rw t in
+            let held : nodeAt w (throughC i) ≡ some n = ap imageNode e ∙ is in
+            with n held (on-image f b out n is) (kept w i (f n) out (λ h. fine n held))
+        read false t = inl (ap (λ (r : Returned). keepImage w i r .after) (unread f b out t))
+
+-- ---- start
+
+-- by value or through C
+abbrev pub startBy : Cluster → Host → HandedBack → List ℕ → Outcome
+startBy w (byValue i) r out = answers (r .number) (cond (eqb (r .number) 0) (putNode w i (r .node)) w)
+startBy w (throughC i) r out = keepImage w i (return r out)
+
+pub run-start : (w : Cluster) (h : Host) (cb sb out : List ℕ) → run w (start h cb sb out) ≡ startBy w h (started cb sb) out
+unfolding run nodeStart
+run-start w (byValue i) cb sb out = refl
+run-start w (throughC i) cb sb out = refl
+
+-- no image is written for the refusals of a start
+quiet : (k : ℕ) → 1 ≤ k → k ≤ 14 → writesImage k ≡ false
+quiet k lo hi = rw (ne-eqb k 0 (λ e. omega arith), ne-eqb k 128 (λ e. omega arith), lt-leb 19 k (omega arith))
+
+pub start-refused : (w : Cluster) (h : Host) (r : HandedBack) (out : List ℕ) → 1 ≤ r .number → r .number ≤ 14 → startBy w h r out .after ≡ w
+start-refused w (byValue i) r out lo hi = rw (ne-eqb (r .number) 0 (λ e. omega arith))
+start-refused w (throughC i) r out lo hi = go (kept w i r out (λ e. absurd (true≢false (sym e ∙ quiet (r .number) lo hi))))
+  where
+    go : (keepImage w i (return r out) .after ≡ w) ⊎ ((writesImage (r .number) ≡ true) × (keepImage w i (return r out) ≡ answers (r .number) (putImage w i (imageBytes (r .node)))))
+        → keepImage w i (return r out) .after ≡ w
+    go (inl e) = e
+    go (inr p) = absurd (true≢false (sym (p .0) ∙ quiet (r .number) lo hi))
+
+pub start-accepted : (w : Cluster) (h : Host) (r : HandedBack) (out : List ℕ) → r .number ≡ 0 → WellFormedNode (r .node)
+    → (startBy w h r out .after ≡ w) ⊎ (startBy w h r out ≡ answers 0 (leave w h (r .node)))
+start-accepted w (byValue i) r out z f = inr (ap (λ (k : ℕ). answers k (cond (eqb k 0) (putNode w i (r .node)) w)) z)
+start-accepted w (throughC i) r out z f = go (kept w i r out (λ e. f))
+  where
+    go : (keepImage w i (return r out) .after ≡ w) ⊎ ((writesImage (r .number) ≡ true) × (keepImage w i (return r out) ≡ answers (r .number) (putImage w i (imageBytes (r .node)))))
+        → (keepImage w i (return r out) .after ≡ w) ⊎ (keepImage w i (return r out) ≡ answers 0 (putImage w i (imageBytes (r .node))))
+    go (inl e) = inl e
+    go (inr p) = inr (p .1 ∙ ap (λ (k : ℕ). answers k (putImage w i (imageBytes (r .node)))) z)
+
+-- ---- checkpoint
+
+-- the bytes given are the checkpoint of the node's state
+gave : (w : Cluster) (n : Node) (out : List ℕ) → WellFormedNode n
+    → (keepCheckpoint w (checkpointNumber (checkpointOf n out .answer)) (checkpointSlice n out) .after ≡ w)
+    ⊎ (keepCheckpoint w (checkpointNumber (checkpointOf n out .answer)) (checkpointSlice n out) .after ≡ give w (checkpointBytes (n .state)))
+unfolding checkpointOf checkpointSlice
+gave w n out f = go (leb checkpointSize (length out))
+  where
+    after : Bool → Cluster
+    after b = keepCheckpoint w (checkpointNumber (cond b Given (Refused 22))) (cond b (overwrite (checkpointBytes (n .state)) out) out) .after
+
+    go : (b : Bool) → (after b ≡ w) ⊎ (after b ≡ give w (checkpointBytes (n .state)))
+    go true = inr (ap (give w) (front (checkpointBytes (n .state)) out checkpointSize (checkpoint-length (n .state) (f .fits .0))))
+    go false = inl refl
+
+-- the host holds a node, and the call gives its checkpoint
+pub record Gave (w : Cluster) (h : Host) (after : Cluster) : Type 0 where
+  pub node : Node
+  pub held : nodeAt w h ≡ some node
+  pub given : after ≡ give w (checkpointBytes (node .state))
+
+gave-held : (w : Cluster) (h : Host) (n : Node) (after : Cluster) → nodeAt w h ≡ some n
+    → (after ≡ w) ⊎ (after ≡ give w (checkpointBytes (n .state))) → (after ≡ w) ⊎ Gave w h after
+gave-held w h n after e (inl k) = inl k
+gave-held w h n after e (inr k) = inr (record { node = n; held = e; given = k })
+
+pub run-checkpoint : (w : Cluster) (h : Host) (out : List ℕ) → ((n : Node) → nodeAt w h ≡ some n → WellFormedNode n)
+    → (run w (checkpoint h out) .after ≡ w) ⊎ Gave w h (run w (checkpoint h out) .after)
+unfolding run nodeCheckpoint
+run-checkpoint w (byValue i) out fine = go (w .nodes i) refl
+  where
+    go : (o : Option Node) → w .nodes i ≡ o → (checkpointNode w out o .after ≡ w) ⊎ Gave w (byValue i) (checkpointNode w out o .after)
+    go none e = inl refl
+    go (some n) e = gave-held w (byValue i) n _ e (gave w n out (fine n e))
+run-checkpoint w (throughC i) out fine = go (w .images i) refl
+  where
+    go : (o : Option (List ℕ)) → w .images i ≡ o → (checkpointImage w out o .after ≡ w) ⊎ Gave w (throughC i) (checkpointImage w out o .after)
+    go none e = inl refl
+    go (some b) e = read (readImage b .ok) refl
+      where
+        -- by whether the image is read
+        x : Bool → Cluster
+        x t =
+            let n = readImage b .node in
+            let r : Returned = cond t (record { number = checkpointNumber (checkpointOf n out .answer); slice = checkpointSlice n out }) (record { number = 1; slice = out }) in
+            keepCheckpoint w (r .number) (r .slice) .after
+
+        read : (t : Bool) → readImage b .ok ≡ t → (x t ≡ w) ⊎ Gave w (throughC i) (x t)
+        read true t =
+            let n = readImage b .node in
+            let held : nodeAt w (throughC i) ≡ some n = ap imageNode e ∙ rw t in
+            gave-held w (throughC i) n _ held (gave w n out (fine n held))
+        read false t = inl refl

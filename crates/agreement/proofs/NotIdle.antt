@@ -1,0 +1,162 @@
+-- The two computed histories.
+use mathlib.Core.Path.{_≡_, refl, sym, ap, _∙_, subst}
+use mathlib.Core.Logic.{_⊎_, inl, inr}
+use mathlib.Core.Bool.{Bool, true, cond, _&&_, and-eq-true-iff}
+use mathlib.Core.List.{List, [], _∷_, List·Memᴰ, List·Memᴰ·head, List·Memᴰ·tail, List·Memᴰ·cases-cons, List·Memᴰ·not-nil, map}
+use mathlib.Core.Option.{some}
+use Prim.Native.Nat.{ℕ, zero, suc}
+use native.Mathlib.Omega.{arith}
+use lib.Dec.{eqb, ltb}
+use lib.ListN.{getD, replicate}
+use borrow.Author.Tests.{ltb-true}
+use Rattle.lists.specs.Fold.{all}
+use Rattle.binary.specs.Number.{Bytes, toBytes, overwrite}
+use Rattle.binary.specs.Codec.{encodeRows}
+use Rattle.state.specs.declared.Cycle.{Cycle}
+use Rattle.records.specs.declared.Announcement.{Announcement}
+use Rattle.records.specs.declared.AnnouncementRead.the-variants.{Read}
+use Rattle.records.specs.Announcement.{readAnnouncement}
+use Rattle.checkpoint.specs.Checkpoint.{checkpointBytes, isCheckpoint}
+use Rattle.node.specs.Start.{startOf}
+use Rattle.node.specs.Deliver.{deliverOf}
+use Rattle.node_c.specs.Image.{imageBytes, decodeImage, isWellFormedVote, isWellFormedOwn, isImage, readImage}
+use Rattle.node_c.specs.Calls.{return, onImage, nodeStart, nodeDeliver}
+use Rattle.marked_examples.specs.Records.{firstCheckpoint, startSeat0, grantTo, twoRows}
+use Rattle.marked_examples.proofs.Compute.{calls-by-value}
+use Rattle.agreement.specs.History.{byValue, throughC, Call, start, deliver, query, checkpoint, History, Cluster, empty, run, Moment, momentsFrom, moments, answer}
+use Rattle.agreement.specs.Claims.{HoldsBytes, Park, EquivocationBound, Agreement}
+use Rattle.agreement.specs.NotIdle.{startSeat1, otherRows, endLogin, peaceful, divided, WithinBound, BeyondBound}
+use Rattle.agreement.proofs.Demand.{advances}
+
+-- what unfolds where calls at hosts are computed
+unfoldable calls-at-hosts : Unit {0}
+unfolding calls-by-value toBytes overwrite encodeRows checkpointBytes imageBytes decodeImage isWellFormedVote isWellFormedOwn isImage readImage return onImage nodeStart nodeDeliver run momentsFrom
+calls-at-hosts = tt
+
+-- ---- of every call of a list
+
+abbrev Each : (Call → Type 0) → History → Type 0
+Each P [] = Unit {0}
+Each P (c ∷ cs) = P c × Each P cs
+
+each : (P : Call → Type 0) (w : Cluster) (cs : History) → Each P cs → (t : Moment) → List·Memᴰ t (momentsFrom w cs) → P (t .call)
+unfolding momentsFrom
+each P w [] h t m = absurd (List·Memᴰ·not-nil m)
+each P w (c ∷ cs) h t m = pick (λ i. each P (run w c .after) cs (h .1) t i) (List·Memᴰ·cases-cons m)
+  where
+    pick : (List·Memᴰ t (momentsFrom (run w c .after) cs) → P (t .call)) → (t ≡ record { before = w; call = c }) ⊎ List·Memᴰ t (momentsFrom (run w c .after) cs) → P (t .call)
+    pick ih (inl e) = rw e (h .0)
+    pick ih (inr i) = ih i
+
+-- ---- the slices hold bytes
+
+abbrev isBytes : List ℕ → Bool
+isBytes b = all (λ x. ltb x 256) b
+
+bytes : (b : List ℕ) → isBytes b ≡ true → Bytes b
+unfolding all
+bytes [] e i = omega arith
+bytes (x ∷ xs) e zero = let t = simp and-eq-true-iff at e in ltb-true x 256 (t .0)
+bytes (x ∷ xs) e (suc i) = let t = simp and-eq-true-iff at e in bytes xs (t .1) i
+
+abbrev holdsBytes : Call → Bool
+holdsBytes (start h cb rb out) = isBytes cb && (isBytes rb && isBytes out)
+holdsBytes (deliver h ab sb out) = isBytes ab && (isBytes sb && isBytes out)
+holdsBytes (query h qb out) = isBytes qb && isBytes out
+holdsBytes (checkpoint h out) = isBytes out
+
+holds-bytes : (c : Call) → holdsBytes c ≡ true → HoldsBytes c
+holds-bytes (start h cb rb out) e = let t = simp and-eq-true-iff at e in (bytes cb (t .0), bytes rb (t .1 .0), bytes out (t .1 .1))
+holds-bytes (deliver h ab sb out) e = let t = simp and-eq-true-iff at e in (bytes ab (t .0), bytes sb (t .1 .0), bytes out (t .1 .1))
+holds-bytes (query h qb out) e = let t = simp and-eq-true-iff at e in (bytes qb (t .0), bytes out (t .1))
+holds-bytes (checkpoint h out) e = bytes out e
+
+-- ---- the starts are from the first checkpoint
+
+abbrev FromFirst : Call → Type 0
+FromFirst (start h cb rb out) = cb ≡ firstCheckpoint
+FromFirst (deliver h ab sb out) = Unit {0}
+FromFirst (query h qb out) = Unit {0}
+FromFirst (checkpoint h out) = Unit {0}
+
+first-accepted : isCheckpoint firstCheckpoint ≡ true
+unfolding calls-by-value
+first-accepted = refl
+
+first-is-bytes : isBytes firstCheckpoint ≡ true
+unfolding all
+first-is-bytes = refl
+
+park : (calls : History) → Each (λ c. holdsBytes c ≡ true) calls → Each FromFirst calls → Park firstCheckpoint calls
+park calls b f = record {
+  first-bytes = bytes firstCheckpoint first-is-bytes;
+  first-checkpoint = first-accepted;
+  bytes = λ t m. holds-bytes (t .call) (each (λ c. holdsBytes c ≡ true) empty calls b t m);
+  starts = λ t m h cb rb out e a. inl (subst FromFirst e (each FromFirst empty calls f t m));
+}
+
+-- ---- one announcement to a cycle
+
+abbrev AsAnnounced : (ℕ → List ℕ) → Call → Type 0
+AsAnnounced g (start h cb rb out) = Unit {0}
+AsAnnounced g (deliver h ab sb out) = (a : Announcement) → readAnnouncement ab ≡ Read a → ab ≡ g (a .cycle .0)
+AsAnnounced g (query h qb out) = Unit {0}
+AsAnnounced g (checkpoint h out) = Unit {0}
+
+bounded : (calls : History) (g : ℕ → List ℕ) → Park firstCheckpoint calls → Each (AsAnnounced g) calls → EquivocationBound calls
+bounded calls g k d t u i j s ab bb a b asb bsb p q n =
+    let x = advances firstCheckpoint calls k s a (record { moment = t; inList = i; bytes = ab; sheet = asb; performed = p }) .this in
+    let y = advances firstCheckpoint calls k s b (record { moment = u; inList = j; bytes = bb; sheet = bsb; performed = q }) .this in
+    let e = subst (AsAnnounced g) (p .called) (each (AsAnnounced g) empty calls d t i) a (p .read) in
+    let f = subst (AsAnnounced g) (q .called) (each (AsAnnounced g) empty calls d u j) b (q .read) in
+    absurd (n (e ∙ ap (λ (c : Cycle). g (c .0)) (x ∙ sym y) ∙ sym f))
+
+-- ---- within the bound
+
+peaceful-park : Park firstCheckpoint peaceful
+unfolding all
+peaceful-park = park peaceful (refl, (refl, (refl, (refl, (refl, (refl, tt)))))) (refl, (refl, (tt, (tt, (tt, (tt, tt))))))
+
+announced : ℕ → List ℕ
+announced c = cond (eqb c 1) (grantTo 120) endLogin
+
+-- bytes that are read as an announcement of cycle c
+of-cycle : (ab : List ℕ) (b : Announcement) → readAnnouncement ab ≡ Read b → ab ≡ announced (b .cycle .0) → (a : Announcement) → readAnnouncement ab ≡ Read a → ab ≡ announced (a .cycle .0)
+of-cycle ab b e f a r = let w : Read b ≡ Read a = sym e ∙ r in let same : b ≡ a = cc in subst (λ (x : Announcement). ab ≡ announced (x .cycle .0)) same f
+
+granted : (a : Announcement) → readAnnouncement (grantTo 120) ≡ Read a → grantTo 120 ≡ announced (a .cycle .0)
+unfolding calls-by-value announced
+granted = of-cycle (grantTo 120) _ refl refl
+
+ended : (a : Announcement) → readAnnouncement endLogin ≡ Read a → endLogin ≡ announced (a .cycle .0)
+unfolding calls-by-value announced
+ended = of-cycle endLogin _ refl refl
+
+answered : map answer (moments peaceful) ≡ replicate 6 (some 0)
+unfolding calls-at-hosts
+answered = refl
+
+pub within-bound : WithinBound
+within-bound = record { park = peaceful-park; bound = bounded peaceful announced peaceful-park (tt, (tt, (granted, (granted, (ended, (ended, tt)))))); performed = answered }
+
+-- ---- beyond the bound
+
+divided-answered : map answer (moments divided) ≡ replicate 4 (some 0)
+unfolding calls-at-hosts
+divided-answered = refl
+
+divided-park : Park firstCheckpoint divided
+unfolding all
+divided-park = park divided (refl, (refl, (refl, (refl, tt)))) (refl, (refl, (tt, (tt, tt))))
+
+split : ¬ Agreement divided
+unfolding calls-at-hosts
+split A =
+    let n = deliverOf (startOf firstCheckpoint startSeat0 .node) (grantTo 120) twoRows .node in
+    let k = deliverOf (startOf firstCheckpoint startSeat1 .node) (grantTo 121) otherRows .node in
+    let e = A _ _ (List·Memᴰ·tail (List·Memᴰ·tail (List·Memᴰ·head refl))) (List·Memᴰ·tail (List·Memᴰ·tail (List·Memᴰ·tail (List·Memᴰ·head refl)))) (byValue 0) (throughC 1) n k refl refl refl in
+    let z : _≡_ {A = ℕ} 120 121 = ap (λ (b : List ℕ). getD b 472 0) e in
+    omega arith
+
+pub beyond-bound : BeyondBound
+beyond-bound = record { park = divided-park; performed = divided-answered; splits = split }

@@ -1,0 +1,3 @@
+-- Laws of the numbers and of the formats: what is written is read back, and what is read is written back.
+pub mod Number
+pub mod Codec

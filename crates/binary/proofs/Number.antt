@@ -1,0 +1,50 @@
+-- Laws of the little-endian numbers, over any width w.
+use Prim.Native.Nat.{ℕ, zero, suc, _+_, _*_, _/_, _%_, _^_, _≤_, _<_}
+use native.Mathlib.Nat.{pow-suc}
+use native.Mathlib.Omega.{arith}
+use mathlib.Core.Path.{_≡_, refl, ap}
+use mathlib.Core.List.{List, [], _∷_, _++_}
+use lib.ListN.{length, take, drop}
+use lib.Seq.{getD-drop}
+use Rattle.binary.specs.Number.{Bytes, toBytes, fromBytes}
+
+-- w bytes are written
+pub number-length : (w x : ℕ) → length (toBytes w x) ≡ w
+unfolding toBytes
+number-length zero x = refl
+number-length (suc w) x = ap suc (number-length w (x / 256))
+
+-- a number that fits is read back
+pub number-read-back : (w x : ℕ) → x < 256 ^ w → (t : List ℕ) → fromBytes w (toBytes w x ++ t) ≡ x
+unfolding toBytes fromBytes
+number-read-back zero x h t = omega arith
+number-read-back (suc w) x h t =
+    let h′ : x < 256 ^ w * 256 = rw pow-suc at h in
+    omega (arith, number-read-back w (x / 256) (omega arith) t)
+
+-- a number that is read fits
+pub number-fits : (w : ℕ) (b : List ℕ) → Bytes b → fromBytes w b < 256 ^ w
+unfolding fromBytes
+number-fits zero b h = omega arith
+number-fits (suc w) [] h = rw pow-suc (omega (arith, number-fits w [] h))
+number-fits (suc w) (x ∷ xs) h = rw pow-suc (omega (arith, h 0, number-fits w xs (λ i. h (suc i))))
+
+-- the bytes that a number was read from are written back
+pub number-written-back : (w : ℕ) (b : List ℕ) → w ≤ length b → Bytes b → toBytes w (fromBytes w b) ≡ take w b
+unfolding toBytes fromBytes
+number-written-back zero b n h = refl
+number-written-back (suc w) [] n h = absurd (omega arith)
+number-written-back (suc w) (x ∷ xs) n h =
+    let q : (x + 256 * fromBytes w xs) / 256 ≡ fromBytes w xs = omega (arith, h 0) in
+    let r : (x + 256 * fromBytes w xs) % 256 ≡ x = omega (arith, h 0) in
+    rw (r, q, number-written-back w xs (omega arith) (λ i. h (suc i)))
+
+-- the first n bytes are bytes, and the bytes after them
+pub bytes-take : (n : ℕ) (b : List ℕ) → Bytes b → Bytes (take n b)
+bytes-take zero b h i = omega arith
+bytes-take (suc n) [] h i = omega arith
+bytes-take (suc n) (x ∷ xs) h zero = h 0
+bytes-take (suc n) (x ∷ xs) h (suc i) = bytes-take n xs (λ j. h (suc j)) i
+
+pub bytes-drop : (n : ℕ) (b : List ℕ) → Bytes b → Bytes (drop n b)
+bytes-drop n b h i = rw getD-drop (h (n + i))

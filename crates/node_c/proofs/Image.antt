@@ -1,0 +1,98 @@
+-- The image of a node and the node of an image, and the two claims.
+use Prim.Native.Nat.{ℕ, zero, suc, _≤_}
+use native.Mathlib.Omega.{arith}
+use mathlib.Core.Path.{_≡_, refl, sym, ap, ap₂, subst, _∙_}
+use mathlib.Core.Bool.{Bool, true, false, cond, and-eq-true-iff}
+use mathlib.Core.List.{List, _++_}
+use lib.Dec.{eqb, leb}
+use lib.ListN.{length, take, drop, length-append, length-drop, take-append-drop}
+use lib.Seq.{take-at, drop-at}
+use borrow.Author.Tests.{eqb-true, eq-eqb, leb-true}
+use Rattle.binary.specs.Number.{Bytes}
+use Rattle.binary.proofs.Number.{bytes-take, bytes-drop}
+use Rattle.binary.proofs.Codec.{Laws, byte-laws, number-laws, rows-laws, read-back, written-back, _⊗-laws_}
+use Rattle.state.specs.WellFormed.{isWellFormed}
+use Rattle.checkpoint.specs.Checkpoint.{checkpointBytes, decodeCheckpoint}
+use Rattle.checkpoint.proofs.Checkpoint.{checkpoint-length, checkpoint-decoded, checkpoint-accepted, decoded-state}
+use Rattle.node.specs.declared.Node.{Node}
+use Rattle.node_c.specs.Image.{ownFields, fieldsOf, ownOf, Fits, imageBytes, decodeImage, isWellFormedOwn, isImage, readImage}
+use Rattle.node_c.specs.Claims.{ReadNode, NodeReadBack, ImageWrittenBack}
+
+own-laws : Laws ownFields
+own-laws = byte-laws ⊗-laws number-laws 4 ⊗-laws byte-laws ⊗-laws rows-laws byte-laws 24 ⊗-laws byte-laws
+
+-- The voted flag's byte is 0 or 1, and tells the flag.
+flag-small : (voted : Bool) → leb (cond voted 1 0) 1 ≡ true
+flag-small true = refl
+flag-small false = refl
+
+flag-back : (voted : Bool) → eqb (cond voted 1 0) 1 ≡ voted
+flag-back true = refl
+flag-back false = refl
+
+flag-forth : (x : ℕ) → x ≤ 1 → cond (eqb x 1) 1 0 ≡ x
+flag-forth zero h = refl
+flag-forth (suc zero) h = refl
+flag-forth (suc (suc x)) h = absurd (omega arith)
+
+-- What is written of a node that fits: its two parts, and what they are read as.
+module _ (n : Node) (h : Fits n) where
+  state-length : length (checkpointBytes (n .state)) ≡ 1108
+  state-length = checkpoint-length (n .state) (h .0)
+
+  pub image-length : length (imageBytes n) ≡ 1139
+  unfolding imageBytes
+  image-length = rw (length-append, state-length, own-laws .long (fieldsOf (n .own)) (h .1))
+
+  state-part : take 1108 (imageBytes n) ≡ checkpointBytes (n .state)
+  unfolding imageBytes
+  state-part = take-at _ _ 1108 state-length
+
+  own-part : drop 1108 (imageBytes n) ≡ ownFields .encode (fieldsOf (n .own))
+  unfolding imageBytes
+  own-part = drop-at (checkpointBytes (n .state)) _ 1108 state-length
+
+  own-decoded : ownFields .decode (drop 1108 (imageBytes n)) ≡ fieldsOf (n .own)
+  own-decoded = rw own-part (read-back own-laws (fieldsOf (n .own)) (h .1))
+
+  image-decoded : decodeImage (imageBytes n) ≡ n
+  unfolding decodeImage
+  image-decoded =
+      let s = ap decodeCheckpoint state-part ∙ checkpoint-decoded (n .state) (h .0) in
+      let o : ownOf (ownFields .decode (drop 1108 (imageBytes n))) ≡ n .own = ap ownOf own-decoded ∙ rw flag-back in
+      λ i. record { state = s i .state; own = o i }
+
+  image-accepted : isWellFormed (n .state) ≡ true → isWellFormedOwn (n .state) (n .own) ≡ true → isImage (imageBytes n) ≡ true
+  unfolding isImage
+  image-accepted s o =
+      let v : leb (ownFields .decode (drop 1108 (imageBytes n)) .1 .1 .0) 1 ≡ true = rw (ap {B = ℕ} (λ p. p .1 .1 .0) own-decoded) (flag-small (n .own .voted)) in
+      simp (and-eq-true-iff, image-decoded, state-part) (eq-eqb _ _ image-length, (checkpoint-accepted (n .state) (h .0) s, (v, o)))
+
+pub node-read-back : NodeReadBack
+unfolding readImage
+node-read-back n w = rw (image-accepted n (w .fits) (w .state) (w .own), image-decoded n (w .fits))
+
+-- What is read from bytes that are accepted: t is what the tests tell, s the state, p the fields of the own part.
+decoded-node : (b : List ℕ) → Bytes b → isImage b ≡ true → ReadNode b (decodeImage b)
+unfolding isImage decodeImage imageBytes
+decoded-node b h e =
+    let t = simp and-eq-true-iff at e in
+    let s = decoded-state (take 1108 b) (bytes-take 1108 b h) (t .1 .0) in
+    let d = drop 1108 b in
+    let g = bytes-drop 1108 b h in
+    let n : length d ≡ 31 = rw length-drop (omega (arith, eqb-true)) in
+    let p = ownFields .decode d in
+    let v = flag-forth (p .1 .1 .0) (leb-true _ _ (t .1 .1 .0)) in
+    let f : fieldsOf (ownOf p) ≡ p = λ i. (p .0, (p .1 .0, (v i, p .1 .1 .1))) in
+    record {
+      well-formed = record {
+        fits = (s .fits, subst (ownFields .Fits) (sym f) (own-laws .fits d (omega arith) g));
+        state = s .well-formed;
+        own = t .1 .1 .1;
+      };
+      written-back = ap₂ _++_ (s .written-back) (ap (ownFields .encode) f ∙ written-back own-laws d n g) ∙ take-append-drop 1108 b;
+    }
+
+pub image-written-back : ImageWrittenBack
+unfolding readImage
+image-written-back b h e = rw e (decoded-node b h e)

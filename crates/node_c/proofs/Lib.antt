@@ -1,0 +1,3 @@
+-- The image, and the nodes that calls hand back.
+pub mod Image
+pub mod WellFormed

@@ -1,0 +1,3 @@
+-- What reading a record tells, and what a count of seats tells.
+pub mod Ranges
+pub mod Counts

@@ -4,3 +4,4 @@ pub mod Rows
 pub mod Sound
 pub mod Kept
 pub mod Perform
+pub mod Admits

@@ -1,7 +1,7 @@
 -- What a call leaves at its host, by value and through C.
 use mathlib.Core.Path.{_≡_, refl, sym, ap, _∙_}
 use mathlib.Core.Logic.{_⊎_, inl, inr}
-use mathlib.Core.Bool.{Bool, true, false, cond, _||_, true≢false}
+use mathlib.Core.Bool.{Bool, true, false, cond}
 use mathlib.Core.List.{List}
 use mathlib.Core.Option.{Option, none, some, Option·some-injective}
 use Prim.Native.Nat.{ℕ, _≤_}
@@ -9,7 +9,7 @@ use native.Mathlib.Omega.{arith}
 use lib.Dec.{eqb, leb}
 use lib.ListN.{length, take, drop}
 use lib.Seq.{take-at}
-use borrow.Author.Tests.{ne-eqb, lt-leb}
+use borrow.Author.Tests.{ne-eqb}
 use Rattle.binary.specs.Number.{overwrite}
 use Rattle.checkpoint.specs.Checkpoint.{checkpointBytes}
 use Rattle.checkpoint.proofs.Checkpoint.{checkpoint-length}
@@ -18,9 +18,10 @@ use Rattle.node.specs.declared.CheckpointAnswer.the-variants.{Given, Refused}
 use Rattle.node.specs.Answers.{checkpointNumber}
 use Rattle.node.specs.Give.{checkpointSize, checkpointOf, checkpointSlice}
 use Rattle.node_c.specs.Image.{imageSize, imageBytes, readImage}
-use Rattle.node_c.specs.Claims.{WellFormedNode}
+use Rattle.node_c.specs.Claims.{WellFormedNode, Writes, Returning, no-room, writes, leaves}
 use Rattle.node_c.proofs.Image.{image-length}
-use Rattle.node_c.specs.Calls.{HandedBack, delivered, asked, started, Returned, tryRoom, writesImage, return, onImage, nodeStart, nodeDeliver, nodeQuery, nodeCheckpoint}
+use Rattle.node_c.proofs.Calls.{calls-return, writes-to, leaves-to}
+use Rattle.node_c.specs.Calls.{HandedBack, delivered, asked, started, Returned, return, onImage, nodeStart, nodeDeliver, nodeQuery, nodeCheckpoint}
 use Rattle.agreement.specs.History.{Host, byValue, throughC, start, deliver, query, checkpoint, Cluster, Outcome, imageNode, nodeAt, putNode, putImage, answers, onNode, onHeldImage, keepImage, give, keepCheckpoint, checkpointNode, checkpointImage, run}
 
 -- the cluster with this node at the host
@@ -47,72 +48,39 @@ run-query w (throughC i) qb out = refl
 
 -- ---- what a call for C returns
 
--- a slice without room gives 22, or leaves the number
-room-cases : (room : Bool) (k : ℕ) → (tryRoom room k ≡ k) ⊎ (tryRoom room k ≡ 22)
-room-cases room k = go (eqb k 1 || eqb k 2) room
-  where
-    go : (t r : Bool) → (cond t k (cond r k 22) ≡ k) ⊎ (cond t k (cond r k 22) ≡ 22)
-    go true r = inl refl
-    go false true = inl refl
-    go false false = inr refl
-
 -- a number that is 0 is that of the call by value
-returned-zero : (r : HandedBack) (out : List ℕ) → return r out .number ≡ 0 → r .number ≡ 0
-unfolding return
-returned-zero r out e = go (room-cases (leb imageSize (length out)) (r .number))
-  where
-    k : ℕ
-    k = tryRoom (leb imageSize (length out)) (r .number)
-
-    go : (k ≡ r .number) ⊎ (k ≡ 22) → r .number ≡ 0
-    go (inl f) = sym f ∙ e
-    go (inr f) = absurd (omega arith)
-
--- no image is written, or the one of the node that the call by value handed back, with its number
-returns : (r : HandedBack) (out : List ℕ) → (writesImage (return r out .number) ≡ false)
-    ⊎ ((writesImage (r .number) ≡ true) × (return r out ≡ record { number = r .number; slice = overwrite (imageBytes (r .node)) out }))
-unfolding return
-returns r out = go (room-cases room (r .number)) (writesImage (r .number)) refl
-  where
-    room : Bool
-    room = leb imageSize (length out)
-
-    -- with this number, where the image is written or not
-    with : ℕ → Bool → Returned
-    with k b = record { number = k; slice = cond b (overwrite (imageBytes (r .node)) out) out }
-
-    go : (tryRoom room (r .number) ≡ r .number) ⊎ (tryRoom room (r .number) ≡ 22) → (t : Bool) → writesImage (r .number) ≡ t
-        → (writesImage (tryRoom room (r .number)) ≡ false) ⊎ ((writesImage (r .number) ≡ true) × (return r out ≡ with (r .number) true))
-    go (inl e) true h = inr (h, ap (λ (k : ℕ). with k (writesImage k)) e ∙ ap (with (r .number)) h)
-    go (inl e) false h = inl (ap writesImage e ∙ h)
-    go (inr e) t h = inl (ap writesImage e)
+returned-zero : (r : HandedBack) (out : List ℕ) (x : Returned) → Returning r out x → x .number ≡ 0 → r .number ≡ 0
+returned-zero r out x (no-room l a b e) z = let q : x .number ≡ 22 = ap (λ (y : Returned). y .number) e in absurd (omega arith)
+returned-zero r out x (writes l w e) z = sym (ap (λ (y : Returned). y .number) e) ∙ z
+returned-zero r out x (leaves n p e) z = sym (ap (λ (y : Returned). y .number) e) ∙ z
 
 -- the front of a slice that bytes were written to
 front : (bytes out : List ℕ) (n : ℕ) → length bytes ≡ n → take n (overwrite bytes out) ≡ bytes
 unfolding overwrite
 front bytes out n e = take-at bytes (drop (length bytes) out) n e
 
--- the host's image is as it was, or that of the node that the call by value handed back
-pub kept : (w : Cluster) (i : ℕ) (r : HandedBack) (out : List ℕ) → (writesImage (r .number) ≡ true → WellFormedNode (r .node))
-    → (keepImage w i (return r out) .after ≡ w)
-    ⊎ ((writesImage (r .number) ≡ true) × (keepImage w i (return r out) ≡ answers (r .number) (putImage w i (imageBytes (r .node)))))
-kept w i r out fine = go (returns r out)
-  where
-    -- after these bytes are kept or not
-    held : Bool → List ℕ → Cluster
-    held b image = cond b (putImage w i image) w
+-- the cluster is as it was, or host i holds the image of the node that the call by value handed back, whose number is the answer
+abbrev pub Kept : Cluster → ℕ → HandedBack → Outcome → Type 0
+Kept w i r x = (x .after ≡ w) ⊎ (Writes (r .number) × (x ≡ answers (r .number) (putImage w i (imageBytes (r .node)))))
 
-    go : (writesImage (return r out .number) ≡ false)
-        ⊎ ((writesImage (r .number) ≡ true) × (return r out ≡ record { number = r .number; slice = overwrite (imageBytes (r .node)) out }))
-        → (keepImage w i (return r out) .after ≡ w)
-        ⊎ ((writesImage (r .number) ≡ true) × (keepImage w i (return r out) ≡ answers (r .number) (putImage w i (imageBytes (r .node)))))
-    go (inl e) = inl (ap (λ (b : Bool). held b (take imageSize (return r out .slice))) e)
-    go (inr p) = inr (
-      p .0,
-      ap (keepImage w i) (p .1)
-          ∙ ap (λ (b : Bool). answers (r .number) (held b (take imageSize (overwrite (imageBytes (r .node)) out)))) (p .0)
-          ∙ ap (λ (image : List ℕ). answers (r .number) (putImage w i image)) (front (imageBytes (r .node)) out imageSize (image-length (r .node) (fine (p .0) .fits))),
-    )
+module _ (w : Cluster) (i : ℕ) (r : HandedBack) (out : List ℕ) (fine : Writes (r .number) → WellFormedNode (r .node)) where
+  -- with these bytes kept or not
+  held : Bool → List ℕ → Cluster
+  held b image = cond b (putImage w i image) w
+
+  by-returning : (x : Returned) → Returning r out x → Kept w i r (keepImage w i x)
+  unfolding held
+  by-returning x (no-room l a b e) = inl (ap (λ (y : Returned). keepImage w i y .after) e)
+  by-returning x (writes l v e) = inr (
+    v,
+    ap (keepImage w i) e
+        ∙ ap (λ (b : Bool). answers (r .number) (held b (take imageSize (overwrite (imageBytes (r .node)) out)))) (writes-to (r .number) v)
+        ∙ ap (λ (image : List ℕ). answers (r .number) (putImage w i image)) (front (imageBytes (r .node)) out imageSize (image-length (r .node) (fine v .fits))),
+  )
+  by-returning x (leaves n p e) = inl (ap (λ (y : Returned). keepImage w i y .after) e ∙ ap (λ (b : Bool). held b (take imageSize out)) (leaves-to (r .number) n))
+
+  pub kept : Kept w i r (keepImage w i (return r out))
+  kept = by-returning (return r out) (calls-return r out)
 
 -- ---- a call on the node that a host holds
 
@@ -139,7 +107,9 @@ heard w (throughC i) f out n e a = go (w .images i) e a
   where
     go : (o : Option (List ℕ)) → imageNode o ≡ some n → onHeldImage w i (λ b. onImage f b out) o .answer ≡ some 0 → f n .number ≡ 0
     go none e a = absurd (let z : _≡_ {A = ℕ} 0 1 = cc in omega arith)
-    go (some b) e a = returned-zero (f n) out (ap (λ (r : Returned). r .number) (sym (on-image f b out n e)) ∙ Option·some-injective (onImage f b out .number) 0 a)
+    go (some b) e a =
+        returned-zero (f n) out (return (f n) out) (calls-return (f n) out)
+        (ap (λ (r : Returned). r .number) (sym (on-image f b out n e)) ∙ Option·some-injective (onImage f b out .number) 0 a)
 
 -- the host holds a node, and the call leaves what f hands back of it, with its number as the answer
 pub record Left (w : Cluster) (h : Host) (f : Node → HandedBack) (x : Outcome) : Type 0 where
@@ -170,9 +140,7 @@ ran w (throughC i) f out fine = go (w .images i) refl
 
         -- the image is read as n
         with : (n : Node) → nodeAt w (throughC i) ≡ some n → onImage f b out ≡ return (f n) out
-            → (keepImage w i (return (f n) out) .after ≡ w)
-            ⊎ ((writesImage (f n .number) ≡ true) × (keepImage w i (return (f n) out) ≡ answers (f n .number) (putImage w i (imageBytes (f n .node)))))
-            → (x .after ≡ w) ⊎ Left w (throughC i) f x
+            → Kept w i (f n) (keepImage w i (return (f n) out)) → (x .after ≡ w) ⊎ Left w (throughC i) f x
         with n held q (inl k) = inl (ap (λ (r : Returned). keepImage w i r .after) q ∙ k)
         with n held q (inr k) =
             let y : x ≡ answers (f n .number) (putImage w i (imageBytes (f n .node))) = ap (keepImage w i) q ∙ k .1 in
@@ -199,24 +167,25 @@ run-start w (byValue i) cb sb out = refl
 run-start w (throughC i) cb sb out = refl
 
 -- no image is written for the refusals of a start
-quiet : (k : ℕ) → 1 ≤ k → k ≤ 14 → writesImage k ≡ false
-quiet k lo hi = rw (ne-eqb k 0 (λ e. omega arith), ne-eqb k 128 (λ e. omega arith), lt-leb 19 k (omega arith))
+no-image : (k : ℕ) → 1 ≤ k → k ≤ 14 → ¬ Writes k
+no-image k lo hi (inl e) = omega arith
+no-image k lo hi (inr (inl e)) = omega arith
+no-image k lo hi (inr (inr m)) = omega arith
 
 pub start-refused : (w : Cluster) (h : Host) (r : HandedBack) (out : List ℕ) → 1 ≤ r .number → r .number ≤ 14 → startBy w h r out .after ≡ w
 start-refused w (byValue i) r out lo hi = rw (ne-eqb (r .number) 0 (λ e. omega arith))
-start-refused w (throughC i) r out lo hi = go (kept w i r out (λ e. absurd (true≢false (sym e ∙ quiet (r .number) lo hi))))
+start-refused w (throughC i) r out lo hi = go (kept w i r out (λ v. absurd (no-image (r .number) lo hi v)))
   where
-    go : (keepImage w i (return r out) .after ≡ w) ⊎ ((writesImage (r .number) ≡ true) × (keepImage w i (return r out) ≡ answers (r .number) (putImage w i (imageBytes (r .node)))))
-        → keepImage w i (return r out) .after ≡ w
+    go : Kept w i r (keepImage w i (return r out)) → keepImage w i (return r out) .after ≡ w
     go (inl e) = e
-    go (inr p) = absurd (true≢false (sym (p .0) ∙ quiet (r .number) lo hi))
+    go (inr p) = absurd (no-image (r .number) lo hi (p .0))
 
 pub start-accepted : (w : Cluster) (h : Host) (r : HandedBack) (out : List ℕ) → r .number ≡ 0 → WellFormedNode (r .node)
     → (startBy w h r out .after ≡ w) ⊎ (startBy w h r out ≡ answers 0 (leave w h (r .node)))
 start-accepted w (byValue i) r out z f = inr (ap (λ (k : ℕ). answers k (cond (eqb k 0) (putNode w i (r .node)) w)) z)
-start-accepted w (throughC i) r out z f = go (kept w i r out (λ e. f))
+start-accepted w (throughC i) r out z f = go (kept w i r out (λ v. f))
   where
-    go : (keepImage w i (return r out) .after ≡ w) ⊎ ((writesImage (r .number) ≡ true) × (keepImage w i (return r out) ≡ answers (r .number) (putImage w i (imageBytes (r .node)))))
+    go : Kept w i r (keepImage w i (return r out))
         → (keepImage w i (return r out) .after ≡ w) ⊎ (keepImage w i (return r out) ≡ answers 0 (putImage w i (imageBytes (r .node))))
     go (inl e) = inl e
     go (inr p) = inr (p .1 ∙ ap (λ (k : ℕ). answers k (putImage w i (imageBytes (r .node)))) z)

@@ -2,3 +2,4 @@
 pub mod Seats
 pub mod Proposals
 pub mod Logins
+pub mod Facts

@@ -7,3 +7,4 @@ pub mod Subjects
 pub mod Proposals
 pub mod Logins
 pub mod WellFormed
+pub mod Claims

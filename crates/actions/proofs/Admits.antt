@@ -57,7 +57,7 @@ first-listed {A} p d (x ∷ xs) = at (p x) refl (first-listed p d xs)
     at false e (inr f) = inr (List·Memᴰ·tail (f .0), f .1)
 
 -- Rule 10: a mature proposal is listed.
-noticed : (s : State) (d : Day) (kind arguments : ℕ) → noticeRefusal s d kind arguments ≡ 0 → Notice s d kind arguments
+noticed : (s : State) (d : Day) (kind arguments : ℕ) → noticeRefusal (s .proposals) d kind arguments ≡ 0 → Notice s d kind arguments
 unfolding noticeRefusal matureProposal
 noticed s d kind arguments e = by (first-listed (isMature kind arguments d) noProposal (s .proposals))
   where
@@ -79,10 +79,10 @@ found s d mask1 mask2 (Presents i flag) e = eqb-true _ _ (not-false _ (passes-ru
 found s d mask1 mask2 (Certify i life) e =
     let p = passes-rule (not (eqb (seatAt i (s .seats) .standing) free)) 9 _ refl (majority _ _ _ e .1) in
     (eqb-true _ _ (not-false _ (p .0)), noticed s d 4 _ (p .1))
-found s d mask1 mask2 (Minima m k S) e = noticed s d 5 _ (passes (noticeRefusal s d 5 _) _ (majority _ _ _ e .1) .0)
+found s d mask1 mask2 (Minima m k S) e = noticed s d 5 _ (passes (noticeRefusal (s .proposals) d 5 _) _ (majority _ _ _ e .1) .0)
 found s d mask1 mask2 (Remove i) e =
     let p = passes-rule (not (isActive (seatAt i (s .seats)))) 9 _ refl (majority _ _ _ e .1) in
-    (not-false _ (p .0), noticed s d 6 _ (passes (noticeRefusal s d 6 _) _ (p .1) .0))
+    (not-false _ (p .0), noticed s d 6 _ (passes (noticeRefusal (s .proposals) d 6 _) _ (p .1) .0))
 found s d mask1 mask2 (Rejoin i life) e =
     let p = passes-rule (not (isActive (seatAt i (s .seats)))) 9 _ refl (majority _ _ _ e .1) in
     (not-false _ (p .0), leb-false _ _ (unrefused _ 14 refl (p .1)))

@@ -76,12 +76,12 @@ module _ (s : State) (d : Day) (before : Sound (s .cycle) (s .day) s) (h : Sound
       (with-seat h i certified life (r .0) (good-seat certified life (omega arith) (omega arith) (r .1) (r .2)) (λ p q. same-present h p 0 (rw st at q)))
       _
   act-kept mask1 mask2 (Minima m k S) wc wd r e =
-      let r10 = passes (noticeRefusal s d 5 (minimaArguments m k S)) _ (passes (trusteeRefusal (s .trustees2) mask2) _ e .1) in
+      let r10 = passes (noticeRefusal (s .proposals) d 5 (minimaArguments m k S)) _ (passes (trusteeRefusal (s .trustees2) mask2) _ e .1) in
       with-dropped (with-minima h m k S r (quorum-left _ _ _ (r10 .1))) _
   act-kept mask1 mask2 (Remove i) wc wd r e =
       let x = seatAt i (s .seats) in
       let r9 = passes-rule (not (isActive x)) 9 _ refl (passes (trusteeRefusal (s .trustees2) mask2) _ e .1) in
-      let r10 = passes (noticeRefusal s d 6 (removeArguments i)) _ (r9 .1) in
+      let r10 = passes (noticeRefusal (s .proposals) d 6 (removeArguments i)) _ (r9 .1) in
       with-dropped
       (restanded h i retired r (omega arith) (omega arith) (active-not-free x (not-false _ (r9 .0)))
       (λ p q. let k : p ≡ presentSeats (s .seats) - cond (isPresent x) 1 0 = omega arith in rw k (quorum-left _ _ _ (r10 .1))))

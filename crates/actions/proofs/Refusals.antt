@@ -8,6 +8,7 @@ use lib.Dec.{eqb, lit≤}
 use borrow.Author.Tests.{eqb-true, eqb-false, ltb-false}
 use Rattle.lists.proofs.Tests.{cond-cases}
 use Rattle.state.specs.declared.Day.{Day}
+use Rattle.state.specs.declared.Cycle.{Cycle}
 use Rattle.state.specs.declared.State.{State}
 use Rattle.state.specs.Time.{isBeforeCycle, isSameCycle, lastCycle}
 use Rattle.state.specs.Seats.{quorum}
@@ -41,7 +42,7 @@ pub record InTime (s : State) (a : Announcement) : Type 0 where
   pub not-last : s .cycle .0 ≢ 4294967295
   pub day : s .day .0 ≤ a .day .0
 
-pub in-time : (s : State) (a : Announcement) → timeRefusal s a ≡ 0 → InTime s a
+pub in-time : (s : State) (a : Announcement) → timeRefusal (s .cycle) (s .day) a ≡ 0 → InTime s a
 unfolding timeRefusal
 in-time s a h =
     let r4 = passes-rule (isBeforeCycle (a .cycle) (s .cycle)) 4 _ refl h in
@@ -77,9 +78,9 @@ rule-within false k m h = omega arith
 pub ruleset bounds = (within, rule-within, lit≤, tt)
 
 -- The rules 4 to 14.
-pub time-within : (s : State) (a : Announcement) → timeRefusal s a ≤ 14
+pub time-within : (c : Cycle) (d : Day) (a : Announcement) → timeRefusal c d a ≤ 14
 unfolding timeRefusal
-time-within s a = search bounds depth 9
+time-within c d a = search bounds depth 9
 
 pub action-within : (s : State) (d : Day) (mask1 mask2 : ℕ) (x : Action) → actionRefusal s d mask1 mask2 x ≤ 14
 unfolding actionRefusal trusteeRefusal noticeRefusal quorumRefusal

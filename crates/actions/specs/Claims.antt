@@ -30,7 +30,7 @@ pub record WellFormed (s : State) : Type 0 where
 
 -- none of the rules 4 to 14 applies to the announcement in this state, with these masks
 pub record Admitted (s : State) (a : Announcement) (mask1 mask2 : ℕ) : Type 0 where
-  pub time : timeRefusal s a ≡ 0
+  pub time : timeRefusal (s .cycle) (s .day) a ≡ 0
   pub action : actionRefusal s (a .day) mask1 mask2 (a .action) ≡ 0
 
 -- Where no rule applies, the state that an announcement leaves is well formed again.
@@ -45,7 +45,7 @@ pub record Advances (s : State) (a : Announcement) : Type 0 where
   pub not-before : s .day .0 ≤ a .day .0
 
 abbrev pub AlwaysAdvances : Type 0
-AlwaysAdvances = (s : State) (a : Announcement) → WellFormed s → timeRefusal s a ≡ 0 → Advances s a
+AlwaysAdvances = (s : State) (a : Announcement) → WellFormed s → timeRefusal (s .cycle) (s .day) a ≡ 0 → Advances s a
 
 -- A seat that is not free is not freed.
 abbrev pub NeverFrees : Type 0

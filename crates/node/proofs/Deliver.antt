@@ -38,7 +38,7 @@ module _ (n : Node) (ab sb : List ℕ) where
   unfolding deliverRefusal
   accepted a ra rs z =
       let p = passes-rule (isHalted n) 3 _ refl z in
-      let q = passes (timeRefusal (n .state) a) _ (p .1) in
+      let q = passes (timeRefusal (n .state .cycle) (n .state .day) a) _ (p .1) in
       record { read = ra; sheet = rs; running = eqb-false _ _ (p .0); admitted = record { time = q .0; action = q .1 } }
 
   within-rules : (a : Announcement) → deliverRefusal n a sb ≤ 14

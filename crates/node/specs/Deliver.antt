@@ -22,7 +22,7 @@ use Rattle.node.specs.Own.{isHalted, canVote, votedOtherwise, ownAfresh,
 unfoldable pub deliverRefusal : Node → Announcement → List ℕ → ℕ
 deliverRefusal n a sb =
     refuseIf (isHalted n) 3
-    orElse timeRefusal (n .state) a
+    orElse timeRefusal (n .state .cycle) (n .state .day) a
     orElse actionRefusal (n .state) (a .day) (level1 sb) (level2 sb) (a .action)
 
 -- the sheet shows a quorum of this state

@@ -1,1 +1,3 @@
-// Rules 3 to 14 and the nine actions: specs/ has the definitions.
+// Rules 4 to 14 and the nine actions.
+pub mod admission;
+pub mod effects;

@@ -1,10 +1,10 @@
 -- Laws of the little-endian numbers, over any width w.
 use Prim.Native.Nat.{ℕ, zero, suc, _+_, _*_, _/_, _%_, _^_, _≤_, _<_}
-use native.Mathlib.Nat.{pow-suc}
+use native.Mathlib.Nat.{zero-add, suc-add, add-zero, pow-zero, pow-suc, one-mul, mul-zero, mul-right-comm}
 use native.Mathlib.Omega.{arith}
-use mathlib.Core.Path.{_≡_, refl, ap}
+use mathlib.Core.Path.{_≡_, refl, ap, _∙_}
 use mathlib.Core.List.{List, [], _∷_, _++_}
-use lib.ListN.{length, take, drop}
+use lib.ListN.{length, getD, take, drop}
 use lib.Seq.{getD-drop}
 use Rattle.binary.specs.Number.{Bytes, toBytes, fromBytes}
 
@@ -48,3 +48,35 @@ bytes-take (suc n) (x ∷ xs) h (suc i) = bytes-take n xs (λ j. h (suc j)) i
 
 pub bytes-drop : (n : ℕ) (b : List ℕ) → Bytes b → Bytes (drop n b)
 bytes-drop n b h i = rw getD-drop (h (n + i))
+
+-- the same number from the bytes at their indices
+abbrev pub sumAt : ℕ → (ℕ → ℕ) → ℕ
+sumAt zero f = 0
+sumAt (suc w) f = f 0 + 256 * sumAt w (λ i. f (suc i))
+
+sum-none : (w : ℕ) → sumAt w (λ i. 0) ≡ 0
+sum-none zero = refl
+sum-none (suc w) = omega (arith, sum-none w)
+
+pub number-sum : (w : ℕ) (b : List ℕ) → fromBytes w b ≡ sumAt w (λ i. getD b i 0)
+unfolding fromBytes
+number-sum zero b = refl
+number-sum (suc w) [] = omega (arith, sum-none w)
+number-sum (suc w) (x ∷ xs) = ap (λ (n : ℕ). x + 256 * n) (number-sum w xs)
+
+pub number-at : (w at : ℕ) (b : List ℕ) → fromBytes (suc w) (drop at b) ≡ getD b at 0 + 256 * sumAt w (λ i. getD b (at + suc i) 0)
+number-at w at b = number-sum (suc w) (drop at b) ∙ simp (getD-drop, add-zero)
+
+number-nil : (w : ℕ) → fromBytes w [] ≡ 0
+unfolding fromBytes
+number-nil zero = refl
+number-nil (suc w) = refl
+
+-- a number of v + w bytes from its two parts
+pub number-add : (v w : ℕ) (b : List ℕ) → fromBytes (v + w) b ≡ fromBytes v b + 256 ^ v * fromBytes w (drop v b)
+unfolding fromBytes
+number-add zero w b = rw (zero-add, pow-zero, one-mul, zero-add)
+number-add (suc v) w [] = rw (suc-add, number-nil w) (omega (arith, mul-zero (256 ^ suc v)))
+number-add (suc v) w (x ∷ xs) =
+    rw (suc-add, pow-suc)
+    (omega (arith, number-add v w xs, mul-right-comm (256 ^ v) 256 (fromBytes w (drop v xs))))

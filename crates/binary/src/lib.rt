@@ -1,1 +1,99 @@
-// Little-endian numbers and formats of a fixed width: specs/ has the definitions.
+// Little-endian numbers in slices, and the frame of a record.
+mod frame;
+
+pub use frame::is_framed;
+pub use frame::is_record;
+ghost use mathlib.Core.Path.{_≡_};
+ghost use Prim.Native.Nat.{_+_, _*_, _≤_, _<_};
+ghost use mathlib.Core.List.{[], _∷_};
+ghost use lib.ListN.{length};
+ghost use Rattle.binary.specs.Number.{toBytes, field};
+ghost use Rattle.binary.specs.Splice.{splice};
+
+// The number with these two bytes, lowest first.
+fn two(a: u8, b: u8) -> u16
+    ensures { λ r. ⌜ r ≡ a + 256 * b ⌝ }
+{
+    (a as u16) + 256 * (b as u16)
+}
+
+// The number with these four bytes, lowest first.
+fn four(a: u8, b: u8, c: u8, d: u8) -> u32
+    ensures { λ r. ⌜ r ≡ a + 256 * (b + 256 * (c + 256 * d)) ⌝ }
+{
+    (a as u32) + 256 * ((b as u32) + 256 * ((c as u32) + 256 * (d as u32)))
+}
+
+// The little-endian number of two bytes at a position.
+pub fn u16_at(s: &[u8], at: usize) -> u16
+    requires { ⌜ at + 2 ≤ length (now s) ⌝ }
+    ensures { λ r. ⌜ r ≡ field 2 at (now (s .entry)) ⌝ }
+{
+    two(s[at], s[at + 1])
+}
+
+// The little-endian number of four bytes at a position.
+pub fn u32_at(s: &[u8], at: usize) -> u32
+    requires { ⌜ at + 4 ≤ length (now s) ⌝ }
+    ensures { λ r. ⌜ r ≡ field 4 at (now (s .entry)) ⌝ }
+{
+    four(s[at], s[at + 1], s[at + 2], s[at + 3])
+}
+
+// Writes a byte at a position.
+pub fn put_u8(out: &mut [u8], at: usize, x: u8)
+    requires { ⌜ at + 1 ≤ length (now out) ⌝ }
+    ensures { λ _. ⌜ now (out .exit) ≡ splice (now (out .entry)) at (x ∷ []) ⌝ }
+{
+    out[at] = x;
+}
+
+// Writes a number as two bytes at a position.
+pub fn put_u16(out: &mut [u8], at: usize, x: u16)
+    requires { ⌜ at + 2 ≤ length (now out) ⌝ }
+    ensures { λ _. ⌜ now (out .exit) ≡ splice (now (out .entry)) at (toBytes 2 x) ⌝ }
+{
+    out[at] = (x % 256) as u8;
+    out[at + 1] = (x / 256 % 256) as u8;
+}
+
+// Writes a number as four bytes at a position.
+pub fn put_u32(out: &mut [u8], at: usize, x: u32)
+    requires { ⌜ at + 4 ≤ length (now out) ⌝ }
+    ensures { λ _. ⌜ now (out .exit) ≡ splice (now (out .entry)) at (toBytes 4 x) ⌝ }
+{
+    out[at] = (x % 256) as u8;
+    out[at + 1] = (x / 256 % 256) as u8;
+    out[at + 2] = (x / 256 / 256 % 256) as u8;
+    out[at + 3] = (x / 256 / 256 / 256 % 256) as u8;
+}
+
+// The number with these two halves, lowest first.
+fn eight(a: u32, b: u32) -> u64
+    ensures { λ r. ⌜ r ≡ a + 4294967296 * b ⌝ }
+{
+    (a as u64) + 4294967296 * (b as u64)
+}
+
+// The little-endian number of eight bytes at a position.
+pub fn u64_at(s: &[u8], at: usize) -> u64
+    requires { ⌜ at + 8 ≤ length (now s) ⌝ }
+    ensures { λ r. ⌜ r ≡ field 8 at (now (s .entry)) ⌝ }
+{
+    eight(u32_at(s, at), u32_at(s, at + 4))
+}
+
+// Writes a number as eight bytes at a position.
+pub fn put_u64(out: &mut [u8], at: usize, x: u64)
+    requires { ⌜ at + 8 ≤ length (now out) ⌝ }
+    ensures { λ _. ⌜ now (out .exit) ≡ splice (now (out .entry)) at (toBytes 8 x) ⌝ }
+{
+    out[at] = (x % 256) as u8;
+    out[at + 1] = (x / 256 % 256) as u8;
+    out[at + 2] = (x / 256 / 256 % 256) as u8;
+    out[at + 3] = (x / 256 / 256 / 256 % 256) as u8;
+    out[at + 4] = (x / 256 / 256 / 256 / 256 % 256) as u8;
+    out[at + 5] = (x / 256 / 256 / 256 / 256 / 256 % 256) as u8;
+    out[at + 6] = (x / 256 / 256 / 256 / 256 / 256 / 256 % 256) as u8;
+    out[at + 7] = (x / 256 / 256 / 256 / 256 / 256 / 256 / 256 % 256) as u8;
+}

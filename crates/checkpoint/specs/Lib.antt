@@ -1,4 +1,5 @@
 -- The checkpoint.
 pub mod Format
+pub mod Parts
 pub mod Checkpoint
 pub mod Claims

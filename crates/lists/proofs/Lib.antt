@@ -4,3 +4,5 @@ pub mod Tests
 pub mod Every
 pub mod Tables
 pub mod Count
+pub mod Loops
+pub mod Marks

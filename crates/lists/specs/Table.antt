@@ -3,7 +3,7 @@ use Prim.Native.Nat.{ℕ, suc, _-_}
 use mathlib.Core.List.{List, [], _∷_, _++_}
 use mathlib.Core.Bool.{Bool, true, cond, not, _&&_}
 use lib.Dec.{leb}
-use lib.ListN.{length, replicate}
+use lib.ListN.{length, take, drop, replicate}
 use Rattle.lists.specs.Fold.{any}
 
 -- the used rows come first, with strictly rising keys of at least lo, and every row after them is unused
@@ -24,3 +24,12 @@ fill n unused rows = rows ++ replicate (n - length rows) unused
 unfoldable pub replaceFirst : {A : Type 0} → (A → Bool) → A → List A → List A
 replaceFirst p x [] = []
 replaceFirst p x (r ∷ rs) = cond (p r) (x ∷ rs) (r ∷ replaceFirst p x rs)
+
+-- the number of rows before the first that passes the test
+unfoldable pub indexOf : {A : Type 0} → (A → Bool) → List A → ℕ
+indexOf p [] = 0
+indexOf p (r ∷ rs) = cond (p r) 0 (suc (indexOf p rs))
+
+-- x before row i, in as many rows as there were
+unfoldable pub insertAt : {A : Type 0} → ℕ → A → List A → List A
+insertAt i x rows = take (length rows) (take i rows ++ (x ∷ drop i rows))

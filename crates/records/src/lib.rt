@@ -3,6 +3,16 @@ use state::Cycle;
 use state::Day;
 use state::Login;
 
+mod announcements;
+mod sheets;
+mod start_query;
+
+pub use announcements::read_announcement;
+pub use sheets::counted_seats;
+pub use sheets::is_sheet;
+pub use start_query::read_query;
+pub use start_query::read_start;
+
 // The nine actions, one case per kind, 1 to 9, with its arguments.
 pub enum Action {
     // The subject: the kind of the proposed action, and its argument bytes as one little-endian number.

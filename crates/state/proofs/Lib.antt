@@ -3,3 +3,5 @@ pub mod Seats
 pub mod Proposals
 pub mod Logins
 pub mod Facts
+pub mod TrusteeMasks
+pub mod Grants

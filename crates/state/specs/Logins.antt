@@ -38,6 +38,10 @@ insertLogin x (r ∷ rs) =
     (cond (not (isLogin r) || ltb (x .login) (r .login)) (x ∷ r ∷ rs)
     (r ∷ insertLogin x rs))
 
+-- a new row of that login takes this row's place or comes before it
+abbrev pub isPlace : ℕ → Login → Bool
+isPlace login r = isNamed login r || (not (isLogin r) || ltb login (r .login))
+
 -- "adds or replaces the login"
 unfoldable pub grantLogin : Login → List Login → List Login
 grantLogin x rows = take 64 (insertLogin x rows)

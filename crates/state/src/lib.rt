@@ -1,4 +1,11 @@
 // The replicated state of a park (01: the synchronised state), and the helpers of days and cycles.
+pub mod login_table;
+pub mod proposal_table;
+pub mod seat_table;
+pub mod subjects;
+pub mod trustees;
+pub mod well_formed;
+
 ghost use mathlib.Core.Path.{_≡_};
 ghost use Rattle.state.specs.Time.{isBeforeDay, daysSince, laterDay, isBeforeCycle, isSameCycle, nextCycle};
 

@@ -3,15 +3,12 @@ use borrow.Author.Needs.{needs}
 use Rattle.state.proofs.Cycle.next.Statement.{statement}
 use Rattle.state.proofs.Cycle.next.Tie as tie
 
--- src/lib.rt:90:40
 add-t4 : tie.Need-add-t4
 add-t4 c = search needs
 
--- src/lib.rt:87:5
 returns : tie.Need-returns
 returns c = search cases
 
--- src/lib.rt:87:5
 returns-2 : tie.Need-returns-2
 returns-2 c = search cases
 

@@ -2,11 +2,9 @@ use Rattle.lists.proofs.Cases.{cases}
 use Rattle.state.proofs.Day.later.Statement.{statement}
 use Rattle.state.proofs.Day.later.Tie as tie
 
--- src/lib.rt:66:5
 returns : tie.Need-returns
 returns c = search cases
 
--- src/lib.rt:66:5
 returns-2 : tie.Need-returns-2
 returns-2 c = search cases
 

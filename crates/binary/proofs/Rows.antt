@@ -1,0 +1,92 @@
+-- Loops over rows of one format: what a loop that reads or writes a row in each turn has done after i of n turns.
+use Prim.Native.Nat.{ℕ, zero, suc, _+_, _*_, _≤_, _<_}
+use native.Mathlib.Nat.{suc-mul, zero-mul, add-comm}
+use native.Mathlib.Numerals.{add-one}
+use native.Mathlib.Omega.{arith}
+use mathlib.Core.Path.{_≡_, refl, sym, ap, _∙_}
+use mathlib.Core.List.{List, [], _∷_, _++_, append-assoc, append-nil}
+use lib.ListN.{length, getD, set, take, drop, length-append, length-set}
+use lib.Seq.{take-suc-set, take-suc, take-all, drop-drop, length-take-le}
+use Rattle.binary.specs.Codec.{Codec, encodeRows, decodeRows}
+use Rattle.binary.specs.Splice.{splice}
+use Rattle.binary.proofs.Splices.{splice-splice, splice-none}
+
+module _ {A : Type 0} (f : Codec A) where
+  -- one more row, at the end
+  encodeRows-snoc : (xs : List A) (x : A) → encodeRows f (xs ++ (x ∷ [])) ≡ encodeRows f xs ++ f .encode x
+  unfolding encodeRows
+  encodeRows-snoc [] x = append-nil (f .encode x)
+  encodeRows-snoc (y ∷ ys) x = ap (λ (l : List ℕ). f .encode y ++ l) (encodeRows-snoc ys x) ∙ sym (append-assoc (f .encode y) (encodeRows f ys) (f .encode x))
+
+  decodeRows-snoc : (n : ℕ) (b : List ℕ) → decodeRows f (suc n) b ≡ decodeRows f n b ++ (f .decode (drop (n * f .width) b) ∷ [])
+  unfolding decodeRows
+  decodeRows-snoc zero b = rw zero-mul
+  decodeRows-snoc (suc n) b =
+      let k : f .width + n * f .width ≡ suc n * f .width = add-comm (f .width) (n * f .width) ∙ sym (suc-mul n (f .width)) in
+      rw (decodeRows-snoc n (drop (f .width) b), drop-drop, k)
+
+  -- the first i of the n rows in b are read into a table
+  pub record RowsRead (n : ℕ) (b : List ℕ) (i : ℕ) (table : List A) : Type 0 where
+    pub within : i ≤ n
+    pub size : length table ≡ n
+    pub read : take i table ≡ decodeRows f i b
+
+  pub read-none : (n : ℕ) (b : List ℕ) (table : List A) → length table ≡ n → RowsRead n b 0 table
+  unfolding decodeRows
+  read-none n b table l = record { within = omega arith; size = l; read = refl }
+
+  pub read-one : (n : ℕ) (s : List ℕ) (at i : ℕ) (table : List A) (x : A) → RowsRead n (drop at s) i table → i < n → x ≡ f .decode (drop (at + i * f .width) s)
+      → RowsRead n (drop at s) (i + 1) (set table i x)
+  read-one n s at i table x h k e =
+      let z = h .size in
+      let e′ : x ≡ f .decode (drop (i * f .width) (drop at s)) = rw drop-drop e in
+      record {
+        within = omega arith;
+        size = simp length-set (h .size);
+        read = rw (add-one, take-suc-set table i x (omega arith), h .read, e′, decodeRows-snoc);
+      }
+
+  pub read-all : (n : ℕ) (b : List ℕ) (i : ℕ) (table : List A) → RowsRead n b i table → n ≤ i → table ≡ decodeRows f n b
+  read-all n b i table h k =
+      let z = h .size in
+      let q : i ≡ n = omega (arith, h .within) in
+      sym (take-all i table (omega arith)) ∙ h .read ∙ ap (λ (m : ℕ). decodeRows f m b) q
+
+  -- the first i of n rows are written to d₀ from index `at` on, which gives d
+  pub record RowsWritten (n : ℕ) (table : List A) (d₀ : List ℕ) (at i : ℕ) (d : List ℕ) : Type 0 where
+    pub within : i ≤ n
+    pub same-length : length d ≡ length d₀
+    pub written : d ≡ splice d₀ at (encodeRows f (take i table))
+
+  pub written-none : (n : ℕ) (table : List A) (d : List ℕ) (at : ℕ) → RowsWritten n table d at 0 d
+  unfolding encodeRows
+  written-none n table d at = record { within = omega arith; same-length = refl; written = sym (splice-none d at) }
+
+  pub written-all : (n : ℕ) (table : List A) (d₀ : List ℕ) (at i : ℕ) (d : List ℕ) → RowsWritten n table d₀ at i d → length table ≡ n → n ≤ i → d ≡ splice d₀ at (encodeRows f table)
+  written-all n table d₀ at i d h l k = h .written ∙ ap (λ (q : List A). splice d₀ at (encodeRows f q)) (take-all i table (omega arith))
+
+  -- rows of which each is written as `width` bytes
+  module _ (flat : (x : A) → length (f .encode x) ≡ f .width) where
+    encodeRows-length : (xs : List A) → length (encodeRows f xs) ≡ length xs * f .width
+    unfolding encodeRows
+    encodeRows-length [] = sym (zero-mul (f .width))
+    encodeRows-length (x ∷ xs) = rw (length-append, suc-mul) (omega (arith, flat x, encodeRows-length xs))
+
+    pub rows-size : (n : ℕ) (xs : List A) → length xs ≡ n → length (encodeRows f xs) ≡ n * f .width
+    rows-size n xs e = encodeRows-length xs ∙ ap (λ (k : ℕ). k * f .width) e
+
+    pub written-one : (n : ℕ) (table : List A) (d₀ : List ℕ) (at i : ℕ) (d d′ : List ℕ) (x : A) → RowsWritten n table d₀ at i d → length table ≡ n → i < n → at + i * f .width ≤ length d₀
+        → length d′ ≡ length d → d′ ≡ splice d (at + i * f .width) (f .encode (getD table i x)) → RowsWritten n table d₀ at (i + 1) d′
+    written-one n table d₀ at i d d′ x h l k room same e =
+        let y = getD table i x in
+        let w : length (encodeRows f (take i table)) ≡ i * f .width = rows-size i (take i table) (length-take-le i table (omega arith)) in
+        let t : take (i + 1) table ≡ take i table ++ (y ∷ []) = rw add-one (take-suc table i x (omega arith)) in
+        record {
+          within = omega arith;
+          same-length = same ∙ h .same-length;
+          written =
+              e
+              ∙ ap (λ (q : List ℕ). splice q (at + i * f .width) (f .encode y)) (h .written)
+              ∙ splice-splice d₀ at (at + i * f .width) (encodeRows f (take i table)) (f .encode y) (ap (λ (m : ℕ). at + m) w) room
+              ∙ ap (splice d₀ at) (sym (encodeRows-snoc (take i table) y) ∙ ap (encodeRows f) (sym t));
+        }

@@ -1,0 +1,88 @@
+use mathlib.Core.Path.{_≡_, refl}
+use mathlib.Core.List.{append-assoc}
+use native.Mathlib.Omega.{arith}
+use denote.Ref.{now}
+use lib.ListN.{length}
+use Rattle.binary.proofs.Splices.{first-put, next-put, all-put}
+use Rattle.binary.proofs.Rows.{rows-size}
+use Rattle.checkpoint.specs.Format.{seat, proposal, login}
+use Rattle.checkpoint.specs.Parts.{tableBytes}
+use Rattle.checkpoint.proofs.Parts.{seat-size, proposal-size, login-size}
+use borrow.Author.Needs.{needs}
+use Rattle.checkpoint.proofs.write.put_tables.Statement.{statement}
+use Rattle.checkpoint.proofs.write.put_tables.Tie as tie
+
+-- The number of rows of each table.
+seat-rows : (c : tie.Start) → length (c .args .seats) ≡ 32
+seat-rows c = search needs
+
+proposal-rows : (c : tie.Start) → length (c .args .proposals) ≡ 16
+proposal-rows c = search needs
+
+login-rows : (c : tie.Start) → length (c .args .logins) ≡ 64
+login-rows c = search needs
+
+-- src/write.rt:112:5
+put-seats-requires : tie.Need-put-seats-requires
+put-seats-requires c κs = search needs
+
+-- src/write.rt:113:22
+count-proposals-requires : tie.Need-count-proposals-requires
+count-proposals-requires c κs = search needs
+
+-- src/write.rt:113:5
+put-u8-requires : tie.Need-put-u8-requires
+put-u8-requires c κs = search needs
+
+-- src/write.rt:114:5
+put-proposals-requires : tie.Need-put-proposals-requires
+put-proposals-requires c κs = search needs
+
+-- src/write.rt:115:22
+count-logins-requires : tie.Need-count-logins-requires
+count-logins-requires c κs = search needs
+
+-- src/write.rt:115:5
+put-u8-requires-2 : tie.Need-put-u8-requires-2
+put-u8-requires-2 c κs = search needs
+
+-- src/write.rt:116:5
+put-logins-requires : tie.Need-put-logins-requires
+put-logins-requires c κs = search needs
+
+-- src/write.rt:108:1
+same-length : tie.Need-same-length
+same-length c = search needs
+
+-- src/write.rt:108:1
+returns : tie.Need-returns
+unfolding tableBytes
+returns c =
+    let l = c .before .before in
+    let k = l .before .before .before .before in
+    let p = k .before .before .before .before .before in
+    let n = p .before .before .before .before in
+    let s = n .before .before .before .before .before in
+    let z = s .before .before .before in
+    let a = z .args in
+    let d = now (a .out) in
+    let w₁ = first-put d _ _ 18 160 (s .put-seats .ensures) (rows-size seat seat-size 32 (a .seats) (seat-rows z)) in
+    let w₂ = next-put d _ _ _ _ 18 178 1 w₁ (n .put-u8 .ensures) refl (omega arith) in
+    let w₃ = next-put d _ _ _ _ 18 179 288 w₂ (p .put-proposals .ensures) (rows-size proposal proposal-size 16 (a .proposals) (proposal-rows z)) (omega arith) in
+    let w₄ = next-put d _ _ _ _ 18 467 1 w₃ (k .put-u82 .ensures) refl (omega arith) in
+    let w₅ = next-put d _ _ _ _ 18 468 640 w₄ (l .put-logins .ensures) (rows-size login login-size 64 (a .logins) (login-rows z)) (omega arith) in
+    all-put d _ _ _ 18 1108 w₅ (rw (n .before .count-proposals .ensures, k .before .count-logins .ensures) (simp append-assoc))
+
+pub put-tables-spec : {M : Type 1} → statement M
+put-tables-spec =
+    tie.close
+    (tie.spec
+    put-seats-requires
+    count-proposals-requires
+    put-u8-requires
+    put-proposals-requires
+    count-logins-requires
+    put-u8-requires-2
+    put-logins-requires
+    same-length
+    returns)

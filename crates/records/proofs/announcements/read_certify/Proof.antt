@@ -1,0 +1,30 @@
+use Rattle.records.specs.Announcement.{readCertify}
+use borrow.Author.Needs.{needs}
+use Rattle.records.proofs.announcements.read_certify.Statement.{statement}
+use Rattle.records.proofs.announcements.read_certify.Tie as tie
+
+shared-slice-read-seat : tie.Need-shared-slice-read-seat
+shared-slice-read-seat c = search needs
+
+u32-at-requires : tie.Need-u32-at-requires
+u32-at-requires c κs = search needs
+
+is-zero-from-requires : tie.Need-is-zero-from-requires
+is-zero-from-requires c κs = search needs
+
+announcing-requires : tie.Need-announcing-requires
+announcing-requires c κs = search needs
+
+returns : tie.Need-returns
+unfolding readCertify
+returns c = cc
+
+pub read-certify-spec : {M : Type 1} → statement M
+read-certify-spec =
+    tie.close
+    (tie.spec
+    shared-slice-read-seat
+    u32-at-requires
+    is-zero-from-requires
+    announcing-requires
+    returns)

@@ -1,0 +1,51 @@
+use mathlib.Core.Path.{_≡_, sym, _∙_}
+use mathlib.Core.Bool.{true}
+use lib.ListN.{length}
+use native.Mathlib.Omega.{arith}
+use borrow.Author.Tests.{lt-ltb, le-ltb, not-true, not-false}
+use denote.Ref.{now}
+use Rattle.binary.specs.Number.{isRecord}
+use Rattle.records.specs.StartQuery.{readStart}
+use Rattle.binary.proofs.Frames.{record-length}
+use borrow.Author.Needs.{needs}
+use Rattle.records.proofs.start_query.read_start.Statement.{statement}
+use Rattle.records.proofs.start_query.read_start.Tie as tie
+
+-- past the first test the bytes are one such record
+framed : (c : tie.Else1) → isRecord 7 19 (now (c .before .before .before .args .b)) ≡ true
+framed c = sym (c .before .is-record .ensures) ∙ not-false _ (c .if1 .left)
+
+long : (c : tie.Else1) → length (now (c .before .before .before .args .b)) ≡ 9
+long c = record-length 7 19 (now (c .before .before .before .args .b)) (framed c)
+
+is-record-requires : tie.Need-is-record-requires
+is-record-requires c κs = search needs
+
+returns : tie.Need-returns
+unfolding readStart
+returns c = rw (sym (c .before .is-record .ensures) ∙ not-true _ (c .if1 .taken))
+
+shared-slice-read-seat : tie.Need-shared-slice-read-seat
+shared-slice-read-seat c = omega (arith, long (c .before))
+
+u32-at-requires : tie.Need-u32-at-requires
+u32-at-requires c κs = omega (arith, long (c .before .before))
+
+returns-2 : tie.Need-returns-2
+unfolding readStart
+returns-2 c = rw (framed (c .before .before .before), lt-ltb _ _ (c .before .if2 .taken), c .u32-at .ensures)
+
+returns-3 : tie.Need-returns-3
+unfolding readStart
+returns-3 c = rw (framed (c .before .before), le-ltb _ _ (c .if2 .left))
+
+pub read-start-spec : {M : Type 1} → statement M
+read-start-spec =
+    tie.close
+    (tie.spec
+    is-record-requires
+    returns
+    shared-slice-read-seat
+    u32-at-requires
+    returns-2
+    returns-3)

@@ -1,0 +1,102 @@
+// Reading a sheet where its bytes lie: row i starts at index 7 + 5 i.
+use binary::is_record;
+use binary::u32_at;
+use state::Seat;
+ghost use mathlib.Core.Path.{_≡_};
+ghost use mathlib.Core.Bool.{true, false, cond};
+ghost use Prim.Native.Nat.{ℕ, _+_, _*_, _≤_};
+ghost use lib.Dec.{ltb};
+ghost use lib.ListN.{length, getD};
+ghost use Rattle.lists.specs.Fold.{all, count};
+ghost use Rattle.state.specs.Seats.{seatAt};
+ghost use Rattle.binary.specs.Number.{byteAt};
+ghost use Rattle.records.specs.Sheet.{rowsOf, isSheet, counts, countedSeats};
+
+// A byte as an index.
+fn size(x: u8) -> usize
+    ensures { λ r. ⌜ r ≡ x ⌝ }
+{
+    x as usize
+}
+
+// The seat of every row is below 32.
+fn are_rows(b: &[u8]) -> bool
+    requires { ⌜ 7 + 5 * byteAt 6 (now b) ≤ length (now b) ⌝ }
+    ensures { λ r. ⌜ r ≡ all (λ x. ltb (x .seat) 32) (rowsOf (now (b .entry))) ⌝ }
+{
+    let n = size(b[6]);
+    let mut i: usize = 0;
+    while i < n {
+        if b[7 + 5 * i] >= 32 {
+            return false;
+        }
+        i += 1;
+    }
+    true
+}
+
+// The bytes are one well-formed sheet.
+pub fn is_sheet(b: &[u8]) -> bool
+    ensures { λ r. ⌜ r ≡ isSheet (now (b .entry)) ⌝ }
+{
+    if b.len() < 7 {
+        return false;
+    }
+    let n = b[6];
+    if n > 64 {
+        return false;
+    }
+    if is_record(b, 5 + 5 * (n as u16), 18) {
+        are_rows(b)
+    } else {
+        false
+    }
+}
+
+// Which seats count on the rows: one pass, in which a row marks the seat that it names.
+fn seen_seats(b: &[u8], seats: [Seat; 32]) -> [bool; 32]
+    requires { ⌜ isSheet (now b) ≡ true ⌝ }
+    ensures { λ r. ⌜ ((k : ℕ) → getD r k false ≡ counts (rowsOf (now (b .entry))) k (seatAt k seats)) ⌝ }
+{
+    let n = size(b[6]);
+    let mut seen = [false; 32];
+    let mut i: usize = 0;
+    while i < n {
+        let at = 7 + 5 * i;
+        let k = size(b[at]);
+        let life = u32_at(b, at + 1);
+        let seat = seats[k];
+        let hit = (seat.standing == 2) & (life == seat.life);
+        seen[k] = seen[k] | hit;
+        i += 1;
+    }
+    seen
+}
+
+// 1 where the test passes, else 0.
+fn one_if(b: bool) -> u8
+    ensures { λ r. ⌜ r ≡ cond b 1 0 ⌝ }
+{
+    if b { 1 } else { 0 }
+}
+
+// The number of true entries.
+fn count_seen(seen: [bool; 32]) -> u8
+    ensures { λ r. ⌜ r ≡ count (λ x. x) seen ⌝ }
+{
+    let mut n: u8 = 0;
+    let mut i: usize = 0;
+    while i < 32 {
+        n += one_if(seen[i]);
+        i += 1;
+    }
+    n
+}
+
+// The number of seats that count on the rows, each once.
+pub fn counted_seats(b: &[u8], seats: [Seat; 32]) -> u8
+    requires { ⌜ isSheet (now b) ≡ true ⌝ }
+    ensures { λ r. ⌜ r ≡ countedSeats (rowsOf (now (b .entry))) seats ⌝ }
+{
+    count_seen(seen_seats(b, seats))
+}

@@ -1,0 +1,47 @@
+// Reading a start record and a query.
+use super::Query;
+use super::QueryRead;
+use super::Start;
+use super::StartRead;
+use binary::is_record;
+use binary::u32_at;
+use state::Day;
+ghost use mathlib.Core.Path.{_≡_};
+ghost use Rattle.records.specs.StartQuery.{readStart, readQuery};
+
+// Reads bytes that are exactly one well-formed start record.
+pub fn read_start(b: &[u8]) -> StartRead
+    ensures { λ r. ⌜ r ≡ readStart (now (b .entry)) ⌝ }
+{
+    if !is_record(b, 7, 19) {
+        return StartRead::Malformed;
+    }
+    let seat = b[4];
+    if seat < 32 {
+        StartRead::Read(Start {
+            seat,
+            life: u32_at(b, 5),
+        })
+    } else {
+        StartRead::Malformed
+    }
+}
+
+// Reads bytes that are exactly one well-formed query.
+pub fn read_query(b: &[u8]) -> QueryRead
+    ensures { λ r. ⌜ r ≡ readQuery (now (b .entry)) ⌝ }
+{
+    if !is_record(b, 11, 20) {
+        return QueryRead::Malformed;
+    }
+    let right = b[12];
+    if right <= 15 {
+        QueryRead::Read(Query {
+            login: u32_at(b, 4),
+            day: Day(u32_at(b, 8)),
+            right,
+        })
+    } else {
+        QueryRead::Malformed
+    }
+}

@@ -1,8 +1,7 @@
 -- A checkpoint written: the sizes of its rows and parts, and the parts joined.
-use Prim.Native.Nat.{ℕ}
 use native.Mathlib.Omega.{arith}
 use mathlib.Core.Path.{_≡_, refl}
-use mathlib.Core.List.{List, _++_, append-assoc}
+use mathlib.Core.List.{_++_, append-assoc}
 use lib.ListN.{length, length-append}
 use Rattle.binary.specs.Number.{toBytes}
 use Rattle.binary.proofs.Rows.{rows-size}

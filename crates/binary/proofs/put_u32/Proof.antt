@@ -5,58 +5,43 @@ use Rattle.binary.proofs.Splices.{splice-stores}
 use Rattle.binary.specs.Number.{toBytes}
 use Rattle.binary.proofs.put_u32.Statement.{statement}
 use Rattle.binary.proofs.put_u32.Tie as tie
-use Rattle.binary.proofs.put_u32.Reads as reads
-use Rattle.binary.proofs.put_u32.Lts as lts
 
--- src/lib.rt:51:15
 cast-out : tie.Need-cast-out
 cast-out c = search needs
 
--- src/lib.rt:51:5
 slice-write-out : tie.Need-slice-write-out
 slice-write-out c = search needs
 
--- src/lib.rt:52:19
 cast-out-2 : tie.Need-cast-out-2
 cast-out-2 c = search needs
 
--- src/lib.rt:52:9
 add-out : tie.Need-add-out
 add-out c = search needs
 
--- src/lib.rt:52:5
 slice-write-out-2 : tie.Need-slice-write-out-2
 slice-write-out-2 c = simp length-set (omega arith)
 
--- src/lib.rt:53:19
 cast-out-3 : tie.Need-cast-out-3
 cast-out-3 c = search needs
 
--- src/lib.rt:53:9
 add-out-2 : tie.Need-add-out-2
 add-out-2 c = search needs
 
--- src/lib.rt:53:5
 slice-write-out-3 : tie.Need-slice-write-out-3
 slice-write-out-3 c = simp length-set (omega arith)
 
--- src/lib.rt:54:19
 cast-out-4 : tie.Need-cast-out-4
 cast-out-4 c = search needs
 
--- src/lib.rt:54:9
 add-out-3 : tie.Need-add-out-3
 add-out-3 c = search needs
 
--- src/lib.rt:54:5
 slice-write-out-4 : tie.Need-slice-write-out-4
 slice-write-out-4 c = simp length-set (omega arith)
 
--- src/lib.rt:47:1
 same-length : tie.Need-same-length
 same-length c = search needs
 
--- src/lib.rt:47:1
 returns : tie.Need-returns
 unfolding toBytes
 returns c = splice-stores _ _ _ _ (c .pre)

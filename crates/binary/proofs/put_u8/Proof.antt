@@ -2,18 +2,13 @@ use borrow.Author.Needs.{needs}
 use Rattle.binary.proofs.Splices.{splice-stores}
 use Rattle.binary.proofs.put_u8.Statement.{statement}
 use Rattle.binary.proofs.put_u8.Tie as tie
-use Rattle.binary.proofs.put_u8.Reads as reads
-use Rattle.binary.proofs.put_u8.Lts as lts
 
--- src/lib.rt:43:5
 slice-write-out : tie.Need-slice-write-out
 slice-write-out c = search needs
 
--- src/lib.rt:39:1
 same-length : tie.Need-same-length
 same-length c = search needs
 
--- src/lib.rt:39:1
 returns : tie.Need-returns
 returns c = splice-stores _ _ _ _ (c .pre)
 

@@ -4,27 +4,19 @@ use denote.Ref.{now}
 use Rattle.binary.proofs.Number.{number-at}
 use Rattle.binary.proofs.u16_at.Statement.{statement}
 use Rattle.binary.proofs.u16_at.Tie as tie
-use Rattle.binary.proofs.u16_at.Reads as reads
-use Rattle.binary.proofs.u16_at.Lts as lts
-use Rattle.binary.proofs.two.Reads as two-reads
 
--- src/lib.rt:26:9
 shared-slice-read-two : tie.Need-shared-slice-read-two
 shared-slice-read-two c = search needs
 
--- src/lib.rt:26:18
 add-two : tie.Need-add-two
 add-two c = search needs
 
--- src/lib.rt:26:16
 shared-slice-read-two-2 : tie.Need-shared-slice-read-two-2
 shared-slice-read-two-2 c = search needs
 
--- src/lib.rt:26:5
 two-requires : tie.Need-two-requires
 two-requires c κs = search needs
 
--- src/lib.rt:22:1
 returns : tie.Need-returns
 returns c = omega (arith, c .two .ensures, number-at 1 (c .before .before .before .before .args .at) (now (c .before .before .before .before .args .s)))
 

@@ -1,14 +1,10 @@
 use Rattle.lists.proofs.Cases.{cases}
 use Rattle.actions.proofs.admission.or_else.Statement.{statement}
 use Rattle.actions.proofs.admission.or_else.Tie as tie
-use Rattle.actions.proofs.admission.or_else.Reads as reads
-use Rattle.actions.proofs.admission.or_else.Lts as lts
 
--- src/admission.rt:32:1
 returns : tie.Need-returns
 returns c = search cases
 
--- src/admission.rt:32:1
 returns-2 : tie.Need-returns-2
 returns-2 c = search cases
 

@@ -2,26 +2,19 @@ use native.Mathlib.Omega.{arith}
 use borrow.Author.Needs.{needs}
 use Rattle.actions.proofs.admission.present_after.Statement.{statement}
 use Rattle.actions.proofs.admission.present_after.Tie as tie
-use Rattle.actions.proofs.admission.present_after.Reads as reads
-use Rattle.actions.proofs.admission.present_after.Lts as lts
 
--- src/admission.rt:100:16
 add-result : tie.Need-add-result
 add-result c = search needs
 
--- src/admission.rt:100:9
 returns : tie.Need-returns
 returns c = rw (c .if1 .taken)
 
--- src/admission.rt:102:28
 sub-result : tie.Need-sub-result
 sub-result c = search needs
 
--- src/admission.rt:95:1
 returns-2 : tie.Need-returns-2
 returns-2 c = rw (c .before .if1 .left) (omega arith)
 
--- src/admission.rt:95:1
 returns-3 : tie.Need-returns-3
 returns-3 c = rw (c .before .if1 .left)
 

@@ -4,29 +4,21 @@ use Rattle.actions.specs.Rules.{presentWithout}
 use borrow.Author.Needs.{needs}
 use Rattle.actions.proofs.admission.present_without.Statement.{statement}
 use Rattle.actions.proofs.admission.present_without.Tie as tie
-use Rattle.actions.proofs.admission.present_without.Reads as reads
-use Rattle.actions.proofs.admission.present_without.Lts as lts
-use Rattle.state.proofs.Seat.is_present.Reads as is-present-reads
 
--- src/admission.rt:84:9
 is-present-requires : tie.Need-is-present-requires
 is-present-requires c κs = search needs
 
--- src/admission.rt:85:9
 returns : tie.Need-returns
 unfolding presentWithout
 returns c = rw (← c .before .is-present .ensures, not-true (c .before .is-present .result) (c .if1 .taken)) (omega arith)
 
--- src/admission.rt:87:28
 sub-result : tie.Need-sub-result
 sub-result c = search needs
 
--- src/admission.rt:81:1
 returns-2 : tie.Need-returns-2
 unfolding presentWithout
 returns-2 c = rw (← c .before .before .is-present .ensures, not-false (c .before .before .is-present .result) (c .before .if1 .left)) (omega arith)
 
--- src/admission.rt:81:1
 returns-3 : tie.Need-returns-3
 unfolding presentWithout
 returns-3 c = rw (← c .before .before .is-present .ensures, not-false (c .before .before .is-present .result) (c .before .if1 .left))

@@ -5,19 +5,15 @@ use borrow.Author.Needs.{needs}
 use Rattle.checkpoint.proofs.read.is_framed.Statement.{statement}
 use Rattle.checkpoint.proofs.read.is_framed.Tie as tie
 
--- src/read.rt:135:9
 returns : tie.Need-returns
 returns c = rw (ne-eqb _ _ (c .if1 .taken))
 
--- src/read.rt:137:6
 u16-at-requires : tie.Need-u16-at-requires
 u16-at-requires c κs = search needs
 
--- src/read.rt:137:31
 u16-at-requires-2 : tie.Need-u16-at-requires-2
 u16-at-requires-2 c κs = search needs
 
--- src/read.rt:131:1
 returns-2 : tie.Need-returns-2
 returns-2 c =
     let e = c .before .before in

@@ -14,46 +14,36 @@ Inv-loop b at rows₀ i₀ rows i = RowsRead login 64 (drop at b) i rows
 abbrev μ-loop : tie.MeasureT-loop
 μ-loop b at rows₀ i₀ rows i = 64 - i
 
--- src/read.rt:101:5
 loop-holds : tie.Need-loop-holds Inv-loop μ-loop
 loop-holds c = read-none login 64 _ _ refl
 
--- src/read.rt:102:36
 mul-login-at : tie.Need-mul-login-at Inv-loop μ-loop
 mul-login-at c = omega arith
 
--- src/read.rt:102:31
 add-login-at : tie.Need-add-login-at Inv-loop μ-loop
 add-login-at c = omega arith
 
--- src/read.rt:102:19
 login-at-requires : tie.Need-login-at-requires Inv-loop μ-loop
 login-at-requires c κs = omega arith
 
--- src/read.rt:102:9
 mul-rows : tie.Need-mul-rows Inv-loop μ-loop
 mul-rows c = omega arith
 
--- src/read.rt:102:9
 array-set-from-rows : tie.Need-array-set-from-rows Inv-loop μ-loop
 array-set-from-rows c = omega arith
 
--- src/read.rt:103:9
 add-i : tie.Need-add-i Inv-loop μ-loop
 add-i c = omega arith
 
--- src/read.rt:101:5
 loop-less : tie.Need-loop-less Inv-loop μ-loop
 loop-less c = omega arith
 
--- src/read.rt:101:5
 loop-again : tie.Need-loop-again Inv-loop μ-loop
 loop-again c =
     let l = c .before .before in
     let a = l .before .before .args in
     read-one login 64 (now (a .b)) (a .at) (l .loop .i) (l .loop .rows) _ (l .loop .inv) (omega arith) (c .login-at .ensures)
 
--- src/read.rt:91:1
 returns : tie.Need-returns Inv-loop μ-loop
 returns c = read-all login 64 _ _ _ (c .before .loop .inv) (omega arith)
 

@@ -3,7 +3,6 @@ use Rattle.checkpoint.specs.Checkpoint.{blankState}
 use Rattle.checkpoint.proofs.read.no_checkpoint.Statement.{statement}
 use Rattle.checkpoint.proofs.read.no_checkpoint.Tie as tie
 
--- src/read.rt:141:1
 returns : tie.Need-returns
 unfolding blankState
 returns c = refl

@@ -3,35 +3,27 @@ use borrow.Author.Needs.{needs}
 use Rattle.checkpoint.proofs.read.proposal_at.Statement.{statement}
 use Rattle.checkpoint.proofs.read.proposal_at.Tie as tie
 
--- src/read.rt:39:22
 u32-at-requires : tie.Need-u32-at-requires
 u32-at-requires c κs = search needs
 
--- src/read.rt:40:28
 add-u32-at : tie.Need-add-u32-at
 add-u32-at c = search needs
 
--- src/read.rt:40:18
 u32-at-requires-2 : tie.Need-u32-at-requires-2
 u32-at-requires-2 c κs = search needs
 
--- src/read.rt:41:25
 add-u16-at : tie.Need-add-u16-at
 add-u16-at c = search needs
 
--- src/read.rt:41:15
 u16-at-requires : tie.Need-u16-at-requires
 u16-at-requires c κs = search needs
 
--- src/read.rt:42:30
 add-u64-at : tie.Need-add-u64-at
 add-u64-at c = search needs
 
--- src/read.rt:42:20
 u64-at-requires : tie.Need-u64-at-requires
 u64-at-requires c κs = search needs
 
--- src/read.rt:34:1
 returns : tie.Need-returns
 returns c = simp (drop-drop, c .before .before .before .u32-at .ensures, c .before .before .u32-at2 .ensures, c .before .u16-at .ensures, c .u64-at .ensures)
 

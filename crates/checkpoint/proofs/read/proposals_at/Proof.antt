@@ -14,46 +14,36 @@ Inv-loop b at rows₀ i₀ rows i = RowsRead proposal 16 (drop at b) i rows
 abbrev μ-loop : tie.MeasureT-loop
 μ-loop b at rows₀ i₀ rows i = 16 - i
 
--- src/read.rt:84:5
 loop-holds : tie.Need-loop-holds Inv-loop μ-loop
 loop-holds c = read-none proposal 16 _ _ refl
 
--- src/read.rt:85:39
 mul-proposal-at : tie.Need-mul-proposal-at Inv-loop μ-loop
 mul-proposal-at c = omega arith
 
--- src/read.rt:85:34
 add-proposal-at : tie.Need-add-proposal-at Inv-loop μ-loop
 add-proposal-at c = omega arith
 
--- src/read.rt:85:19
 proposal-at-requires : tie.Need-proposal-at-requires Inv-loop μ-loop
 proposal-at-requires c κs = omega arith
 
--- src/read.rt:85:9
 mul-rows : tie.Need-mul-rows Inv-loop μ-loop
 mul-rows c = omega arith
 
--- src/read.rt:85:9
 array-set-from-rows : tie.Need-array-set-from-rows Inv-loop μ-loop
 array-set-from-rows c = omega arith
 
--- src/read.rt:86:9
 add-i : tie.Need-add-i Inv-loop μ-loop
 add-i c = omega arith
 
--- src/read.rt:84:5
 loop-less : tie.Need-loop-less Inv-loop μ-loop
 loop-less c = omega arith
 
--- src/read.rt:84:5
 loop-again : tie.Need-loop-again Inv-loop μ-loop
 loop-again c =
     let l = c .before .before in
     let a = l .before .before .args in
     read-one proposal 16 (now (a .b)) (a .at) (l .loop .i) (l .loop .rows) _ (l .loop .inv) (omega arith) (c .proposal-at .ensures)
 
--- src/read.rt:73:1
 returns : tie.Need-returns Inv-loop μ-loop
 returns c = read-all proposal 16 _ _ _ (c .before .loop .inv) (omega arith)
 

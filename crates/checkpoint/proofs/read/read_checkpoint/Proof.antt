@@ -31,53 +31,41 @@ tested c =
     let s = p .before .before .before .before in
     is-tested (now (s .before .before .before .before .args .b)) _ _ _ _ (framed (s .before)) (s .state-in .ensures) (p .count-proposals .ensures) (l .count-logins .ensures) (c .is-well-formed .ensures)
 
--- src/read.rt:180:9
 is-framed-requires : tie.Need-is-framed-requires
 is-framed-requires c κs = search needs
 
--- src/read.rt:181:9
 no-checkpoint-requires : tie.Need-no-checkpoint-requires
 no-checkpoint-requires c κs = search needs
 
--- src/read.rt:181:9
 returns : tie.Need-returns
 unfolding isCheckpoint readCheckpoint
 returns c = rw (c .no-checkpoint .ensures, sym (c .before .before .is-framed .ensures) ∙ not-true _ (c .before .if1 .taken))
 
--- src/read.rt:183:9
 state-in-requires : tie.Need-state-in-requires
 state-in-requires c κs = omega (arith, size c)
 
--- src/read.rt:186:20
 shared-slice-read-counted : tie.Need-shared-slice-read-counted
 shared-slice-read-counted c = omega (arith, size (c .before .before .before .before))
 
--- src/read.rt:186:30
 count-proposals-requires : tie.Need-count-proposals-requires
 count-proposals-requires c κs = search needs
 
--- src/read.rt:186:61
 shared-slice-read-counted-2 : tie.Need-shared-slice-read-counted-2
 shared-slice-read-counted-2 c = omega (arith, size (c .before .before .before .before .before .before))
 
--- src/read.rt:186:71
 count-logins-requires : tie.Need-count-logins-requires
 count-logins-requires c κs = search needs
 
--- src/read.rt:187:18
 is-well-formed-requires : tie.Need-is-well-formed-requires
 is-well-formed-requires c κs = search needs
 
--- src/read.rt:193:9
 no-checkpoint-requires-2 : tie.Need-no-checkpoint-requires-2
 no-checkpoint-requires-2 c κs = search needs
 
--- src/read.rt:177:1
 returns-2 : tie.Need-returns-2
 unfolding readCheckpoint
 returns-2 c = rw (tested (c .before) ∙ c .if2 .taken, c .before .before .before .before .before .before .before .before .state-in .ensures)
 
--- src/read.rt:177:1
 returns-3 : tie.Need-returns-3
 unfolding readCheckpoint
 returns-3 c = rw (tested (c .before .before) ∙ c .before .if2 .left, c .no-checkpoint2 .ensures)

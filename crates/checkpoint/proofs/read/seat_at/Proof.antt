@@ -4,19 +4,15 @@ use borrow.Author.Needs.{needs}
 use Rattle.checkpoint.proofs.read.seat_at.Statement.{statement}
 use Rattle.checkpoint.proofs.read.seat_at.Tie as tie
 
--- src/read.rt:29:19
 shared-slice-read-t4 : tie.Need-shared-slice-read-t4
 shared-slice-read-t4 c = search needs
 
--- src/read.rt:30:25
 add-u32-at : tie.Need-add-u32-at
 add-u32-at c = search needs
 
--- src/read.rt:30:15
 u32-at-requires : tie.Need-u32-at-requires
 u32-at-requires c κs = search needs
 
--- src/read.rt:24:1
 returns : tie.Need-returns
 returns c = simp (getD-drop, add-zero, drop-drop, c .u32-at .ensures)
 

@@ -14,46 +14,36 @@ Inv-loop b at rows₀ i₀ rows i = RowsRead seat 32 (drop at b) i rows
 abbrev μ-loop : tie.MeasureT-loop
 μ-loop b at rows₀ i₀ rows i = 32 - i
 
--- src/read.rt:66:5
 loop-holds : tie.Need-loop-holds Inv-loop μ-loop
 loop-holds c = read-none seat 32 _ _ refl
 
--- src/read.rt:67:35
 mul-seat-at : tie.Need-mul-seat-at Inv-loop μ-loop
 mul-seat-at c = omega arith
 
--- src/read.rt:67:30
 add-seat-at : tie.Need-add-seat-at Inv-loop μ-loop
 add-seat-at c = omega arith
 
--- src/read.rt:67:19
 seat-at-requires : tie.Need-seat-at-requires Inv-loop μ-loop
 seat-at-requires c κs = omega arith
 
--- src/read.rt:67:9
 mul-rows : tie.Need-mul-rows Inv-loop μ-loop
 mul-rows c = omega arith
 
--- src/read.rt:67:9
 array-set-from-rows : tie.Need-array-set-from-rows Inv-loop μ-loop
 array-set-from-rows c = omega arith
 
--- src/read.rt:68:9
 add-i : tie.Need-add-i Inv-loop μ-loop
 add-i c = omega arith
 
--- src/read.rt:66:5
 loop-less : tie.Need-loop-less Inv-loop μ-loop
 loop-less c = omega arith
 
--- src/read.rt:66:5
 loop-again : tie.Need-loop-again Inv-loop μ-loop
 loop-again c =
     let l = c .before .before in
     let a = l .before .before .args in
     read-one seat 32 (now (a .b)) (a .at) (l .loop .i) (l .loop .rows) _ (l .loop .inv) (omega arith) (c .seat-at .ensures)
 
--- src/read.rt:57:1
 returns : tie.Need-returns Inv-loop μ-loop
 returns c = read-all seat 32 _ _ _ (c .before .loop .inv) (omega arith)
 

@@ -6,47 +6,36 @@ use borrow.Author.Needs.{needs}
 use Rattle.checkpoint.proofs.read.state_in.Statement.{statement}
 use Rattle.checkpoint.proofs.read.state_in.Tie as tie
 
--- src/read.rt:113:9
 seats-at-requires : tie.Need-seats-at-requires
 seats-at-requires c κs = search needs
 
--- src/read.rt:114:9
 proposals-at-requires : tie.Need-proposals-at-requires
 proposals-at-requires c κs = search needs
 
--- src/read.rt:115:9
 logins-at-requires : tie.Need-logins-at-requires
 logins-at-requires c κs = search needs
 
--- src/read.rt:117:22
 u32-at-requires : tie.Need-u32-at-requires
 u32-at-requires c κs = search needs
 
--- src/read.rt:118:18
 u32-at-requires-2 : tie.Need-u32-at-requires-2
 u32-at-requires-2 c κs = search needs
 
--- src/read.rt:119:20
 shared-slice-read-t10 : tie.Need-shared-slice-read-t10
 shared-slice-read-t10 c = search needs
 
--- src/read.rt:120:20
 shared-slice-read-t12 : tie.Need-shared-slice-read-t12
 shared-slice-read-t12 c = search needs
 
--- src/read.rt:121:17
 shared-slice-read-t14 : tie.Need-shared-slice-read-t14
 shared-slice-read-t14 c = search needs
 
--- src/read.rt:122:16
 shared-slice-read-t16 : tie.Need-shared-slice-read-t16
 shared-slice-read-t16 c = search needs
 
--- src/read.rt:123:18
 u16-at-requires : tie.Need-u16-at-requires
 u16-at-requires c κs = search needs
 
--- src/read.rt:109:1
 returns : tie.Need-returns
 returns c =
     let n = c .before .before .before .before .before in

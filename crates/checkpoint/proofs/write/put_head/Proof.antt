@@ -7,27 +7,21 @@ use borrow.Author.Needs.{needs}
 use Rattle.checkpoint.proofs.write.put_head.Statement.{statement}
 use Rattle.checkpoint.proofs.write.put_head.Tie as tie
 
--- src/write.rt:89:5
 put-u16-requires : tie.Need-put-u16-requires
 put-u16-requires c κs = search needs
 
--- src/write.rt:90:5
 put-u16-requires-2 : tie.Need-put-u16-requires-2
 put-u16-requires-2 c κs = search needs
 
--- src/write.rt:91:5
 put-u32-requires : tie.Need-put-u32-requires
 put-u32-requires c κs = search needs
 
--- src/write.rt:92:5
 put-u32-requires-2 : tie.Need-put-u32-requires-2
 put-u32-requires-2 c κs = search needs
 
--- src/write.rt:85:1
 same-length : tie.Need-same-length
 same-length c = search needs
 
--- src/write.rt:85:1
 returns : tie.Need-returns
 unfolding toBytes headBytes
 returns c =

@@ -6,31 +6,24 @@ use borrow.Author.Needs.{needs}
 use Rattle.checkpoint.proofs.write.put_login.Statement.{statement}
 use Rattle.checkpoint.proofs.write.put_login.Tie as tie
 
--- src/write.rt:46:5
 put-u32-requires : tie.Need-put-u32-requires
 put-u32-requires c κs = search needs
 
--- src/write.rt:47:18
 add-put-u32 : tie.Need-add-put-u32
 add-put-u32 c = search needs
 
--- src/write.rt:47:5
 put-u32-requires-2 : tie.Need-put-u32-requires-2
 put-u32-requires-2 c κs = search needs
 
--- src/write.rt:48:18
 add-put-u16 : tie.Need-add-put-u16
 add-put-u16 c = search needs
 
--- src/write.rt:48:5
 put-u16-requires : tie.Need-put-u16-requires
 put-u16-requires c κs = search needs
 
--- src/write.rt:42:1
 same-length : tie.Need-same-length
 same-length c = search needs
 
--- src/write.rt:42:1
 returns : tie.Need-returns
 unfolding toBytes
 returns c =

@@ -14,50 +14,39 @@ Inv-loop out₀ at rows i₀ out i = RowsWritten login 64 rows out₀ at i out
 abbrev μ-loop : tie.MeasureT-loop
 μ-loop out₀ at rows i₀ out i = 64 - i
 
--- src/write.rt:78:5
 loop-holds : tie.Need-loop-holds Inv-loop μ-loop
 loop-holds c = written-none login 64 _ _ _
 
--- src/write.rt:79:29
 mul-put-login : tie.Need-mul-put-login Inv-loop μ-loop
 mul-put-login c = omega arith
 
--- src/write.rt:79:24
 add-put-login : tie.Need-add-put-login Inv-loop μ-loop
 add-put-login c = omega arith
 
--- src/write.rt:79:37
 mul-put-login-2 : tie.Need-mul-put-login-2 Inv-loop μ-loop
 mul-put-login-2 c = omega arith
 
--- src/write.rt:79:37
 array-copy-out-put-login : tie.Need-array-copy-out-put-login Inv-loop μ-loop
 array-copy-out-put-login c = omega arith
 
--- src/write.rt:79:9
 put-login-requires : tie.Need-put-login-requires Inv-loop μ-loop
 put-login-requires c κs = omega arith
 
--- src/write.rt:80:9
 add-i : tie.Need-add-i Inv-loop μ-loop
 add-i c = omega arith
 
--- src/write.rt:78:5
 loop-less : tie.Need-loop-less Inv-loop μ-loop
 loop-less c = omega arith
 
--- src/write.rt:78:5
 loop-again : tie.Need-loop-again Inv-loop μ-loop
 loop-again c =
     let l = c .before .before .before .before .before .before in
     let a = l .before .before .args in
     written-one login login-size 64 (a .t3) (now (a .out)) (a .at) (l .loop .i) (l .loop .out) _ _ (l .loop .inv) (search needs) (omega arith) (omega arith) (c .before .before .put-login .kept .0) (c .before .before .put-login .ensures)
 
--- src/write.rt:73:1
 same-length : tie.Need-same-length Inv-loop μ-loop
 same-length c = c .before .loop .inv .same-length
 
--- src/write.rt:73:1
 returns : tie.Need-returns Inv-loop μ-loop
 returns c = written-all login 64 (c .before .before .before .args .t3) _ _ _ _ (c .before .loop .inv) (search needs) (omega arith)
 

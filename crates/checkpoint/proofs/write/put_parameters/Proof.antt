@@ -7,31 +7,24 @@ use borrow.Author.Needs.{needs}
 use Rattle.checkpoint.proofs.write.put_parameters.Statement.{statement}
 use Rattle.checkpoint.proofs.write.put_parameters.Tie as tie
 
--- src/write.rt:100:5
 put-u8-requires : tie.Need-put-u8-requires
 put-u8-requires c κs = search needs
 
--- src/write.rt:101:5
 put-u8-requires-2 : tie.Need-put-u8-requires-2
 put-u8-requires-2 c κs = search needs
 
--- src/write.rt:102:5
 put-u8-requires-3 : tie.Need-put-u8-requires-3
 put-u8-requires-3 c κs = search needs
 
--- src/write.rt:103:5
 put-u8-requires-4 : tie.Need-put-u8-requires-4
 put-u8-requires-4 c κs = search needs
 
--- src/write.rt:104:5
 put-u16-requires : tie.Need-put-u16-requires
 put-u16-requires c κs = search needs
 
--- src/write.rt:96:1
 same-length : tie.Need-same-length
 same-length c = search needs
 
--- src/write.rt:96:1
 returns : tie.Need-returns
 unfolding toBytes parameterBytes
 returns c =

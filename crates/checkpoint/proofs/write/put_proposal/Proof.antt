@@ -6,39 +6,30 @@ use borrow.Author.Needs.{needs}
 use Rattle.checkpoint.proofs.write.put_proposal.Statement.{statement}
 use Rattle.checkpoint.proofs.write.put_proposal.Tie as tie
 
--- src/write.rt:36:5
 put-u32-requires : tie.Need-put-u32-requires
 put-u32-requires c κs = search needs
 
--- src/write.rt:37:18
 add-put-u32 : tie.Need-add-put-u32
 add-put-u32 c = search needs
 
--- src/write.rt:37:5
 put-u32-requires-2 : tie.Need-put-u32-requires-2
 put-u32-requires-2 c κs = search needs
 
--- src/write.rt:38:18
 add-put-u16 : tie.Need-add-put-u16
 add-put-u16 c = search needs
 
--- src/write.rt:38:5
 put-u16-requires : tie.Need-put-u16-requires
 put-u16-requires c κs = search needs
 
--- src/write.rt:39:18
 add-put-u64 : tie.Need-add-put-u64
 add-put-u64 c = search needs
 
--- src/write.rt:39:5
 put-u64-requires : tie.Need-put-u64-requires
 put-u64-requires c κs = search needs
 
--- src/write.rt:32:1
 same-length : tie.Need-same-length
 same-length c = search needs
 
--- src/write.rt:32:1
 returns : tie.Need-returns
 unfolding toBytes
 returns c =

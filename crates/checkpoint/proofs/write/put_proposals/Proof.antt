@@ -14,50 +14,39 @@ Inv-loop out₀ at rows i₀ out i = RowsWritten proposal 16 rows out₀ at i ou
 abbrev μ-loop : tie.MeasureT-loop
 μ-loop out₀ at rows i₀ out i = 16 - i
 
--- src/write.rt:67:5
 loop-holds : tie.Need-loop-holds Inv-loop μ-loop
 loop-holds c = written-none proposal 16 _ _ _
 
--- src/write.rt:68:32
 mul-put-proposal : tie.Need-mul-put-proposal Inv-loop μ-loop
 mul-put-proposal c = omega arith
 
--- src/write.rt:68:27
 add-put-proposal : tie.Need-add-put-proposal Inv-loop μ-loop
 add-put-proposal c = omega arith
 
--- src/write.rt:68:40
 mul-put-proposal-2 : tie.Need-mul-put-proposal-2 Inv-loop μ-loop
 mul-put-proposal-2 c = omega arith
 
--- src/write.rt:68:40
 array-copy-out-put-proposal : tie.Need-array-copy-out-put-proposal Inv-loop μ-loop
 array-copy-out-put-proposal c = omega arith
 
--- src/write.rt:68:9
 put-proposal-requires : tie.Need-put-proposal-requires Inv-loop μ-loop
 put-proposal-requires c κs = omega arith
 
--- src/write.rt:69:9
 add-i : tie.Need-add-i Inv-loop μ-loop
 add-i c = omega arith
 
--- src/write.rt:67:5
 loop-less : tie.Need-loop-less Inv-loop μ-loop
 loop-less c = omega arith
 
--- src/write.rt:67:5
 loop-again : tie.Need-loop-again Inv-loop μ-loop
 loop-again c =
     let l = c .before .before .before .before .before .before in
     let a = l .before .before .args in
     written-one proposal proposal-size 16 (a .t3) (now (a .out)) (a .at) (l .loop .i) (l .loop .out) _ _ (l .loop .inv) (search needs) (omega arith) (omega arith) (c .before .before .put-proposal .kept .0) (c .before .before .put-proposal .ensures)
 
--- src/write.rt:62:1
 same-length : tie.Need-same-length Inv-loop μ-loop
 same-length c = c .before .loop .inv .same-length
 
--- src/write.rt:62:1
 returns : tie.Need-returns Inv-loop μ-loop
 returns c = written-all proposal 16 (c .before .before .before .args .t3) _ _ _ _ (c .before .loop .inv) (search needs) (omega arith)
 

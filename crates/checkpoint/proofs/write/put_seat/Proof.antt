@@ -5,23 +5,18 @@ use borrow.Author.Needs.{needs}
 use Rattle.checkpoint.proofs.write.put_seat.Statement.{statement}
 use Rattle.checkpoint.proofs.write.put_seat.Tie as tie
 
--- src/write.rt:28:5
 put-u8-requires : tie.Need-put-u8-requires
 put-u8-requires c κs = search needs
 
--- src/write.rt:29:18
 add-put-u32 : tie.Need-add-put-u32
 add-put-u32 c = search needs
 
--- src/write.rt:29:5
 put-u32-requires : tie.Need-put-u32-requires
 put-u32-requires c κs = search needs
 
--- src/write.rt:24:1
 same-length : tie.Need-same-length
 same-length c = search needs
 
--- src/write.rt:24:1
 returns : tie.Need-returns
 returns c =
     let l = c .before .before in

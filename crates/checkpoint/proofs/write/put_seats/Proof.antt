@@ -14,50 +14,39 @@ Inv-loop out₀ at rows i₀ out i = RowsWritten seat 32 rows out₀ at i out
 abbrev μ-loop : tie.MeasureT-loop
 μ-loop out₀ at rows i₀ out i = 32 - i
 
--- src/write.rt:56:5
 loop-holds : tie.Need-loop-holds Inv-loop μ-loop
 loop-holds c = written-none seat 32 _ _ _
 
--- src/write.rt:57:28
 mul-put-seat : tie.Need-mul-put-seat Inv-loop μ-loop
 mul-put-seat c = omega arith
 
--- src/write.rt:57:23
 add-put-seat : tie.Need-add-put-seat Inv-loop μ-loop
 add-put-seat c = omega arith
 
--- src/write.rt:57:35
 mul-put-seat-2 : tie.Need-mul-put-seat-2 Inv-loop μ-loop
 mul-put-seat-2 c = omega arith
 
--- src/write.rt:57:35
 array-copy-out-put-seat : tie.Need-array-copy-out-put-seat Inv-loop μ-loop
 array-copy-out-put-seat c = omega arith
 
--- src/write.rt:57:9
 put-seat-requires : tie.Need-put-seat-requires Inv-loop μ-loop
 put-seat-requires c κs = omega arith
 
--- src/write.rt:58:9
 add-i : tie.Need-add-i Inv-loop μ-loop
 add-i c = omega arith
 
--- src/write.rt:56:5
 loop-less : tie.Need-loop-less Inv-loop μ-loop
 loop-less c = omega arith
 
--- src/write.rt:56:5
 loop-again : tie.Need-loop-again Inv-loop μ-loop
 loop-again c =
     let l = c .before .before .before .before .before .before in
     let a = l .before .before .args in
     written-one seat seat-size 32 (a .t3) (now (a .out)) (a .at) (l .loop .i) (l .loop .out) _ _ (l .loop .inv) (search needs) (omega arith) (omega arith) (c .before .before .put-seat .kept .0) (c .before .before .put-seat .ensures)
 
--- src/write.rt:51:1
 same-length : tie.Need-same-length Inv-loop μ-loop
 same-length c = c .before .loop .inv .same-length
 
--- src/write.rt:51:1
 returns : tie.Need-returns Inv-loop μ-loop
 returns c = written-all seat 32 (c .before .before .before .args .t3) _ _ _ _ (c .before .loop .inv) (search needs) (omega arith)
 

@@ -22,39 +22,30 @@ proposal-rows c = search needs
 login-rows : (c : tie.Start) → length (c .args .logins) ≡ 64
 login-rows c = search needs
 
--- src/write.rt:112:5
 put-seats-requires : tie.Need-put-seats-requires
 put-seats-requires c κs = search needs
 
--- src/write.rt:113:22
 count-proposals-requires : tie.Need-count-proposals-requires
 count-proposals-requires c κs = search needs
 
--- src/write.rt:113:5
 put-u8-requires : tie.Need-put-u8-requires
 put-u8-requires c κs = search needs
 
--- src/write.rt:114:5
 put-proposals-requires : tie.Need-put-proposals-requires
 put-proposals-requires c κs = search needs
 
--- src/write.rt:115:22
 count-logins-requires : tie.Need-count-logins-requires
 count-logins-requires c κs = search needs
 
--- src/write.rt:115:5
 put-u8-requires-2 : tie.Need-put-u8-requires-2
 put-u8-requires-2 c κs = search needs
 
--- src/write.rt:116:5
 put-logins-requires : tie.Need-put-logins-requires
 put-logins-requires c κs = search needs
 
--- src/write.rt:108:1
 same-length : tie.Need-same-length
 same-length c = search needs
 
--- src/write.rt:108:1
 returns : tie.Need-returns
 unfolding tableBytes
 returns c =

@@ -8,23 +8,18 @@ use borrow.Author.Needs.{needs}
 use Rattle.checkpoint.proofs.write.write_checkpoint.Statement.{statement}
 use Rattle.checkpoint.proofs.write.write_checkpoint.Tie as tie
 
--- src/write.rt:127:5
 put-head-requires : tie.Need-put-head-requires
 put-head-requires c κs = search needs
 
--- src/write.rt:128:5
 put-parameters-requires : tie.Need-put-parameters-requires
 put-parameters-requires c κs = search needs
 
--- src/write.rt:129:5
 put-tables-requires : tie.Need-put-tables-requires
 put-tables-requires c κs = search needs
 
--- src/write.rt:120:1
 same-length : tie.Need-same-length
 same-length c = search needs
 
--- src/write.rt:120:1
 returns : tie.Need-returns
 returns c =
     let t = c .before .before in

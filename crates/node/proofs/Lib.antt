@@ -3,3 +3,4 @@ pub mod Deliver
 pub mod Query
 pub mod Start
 pub mod Numbers
+pub mod Votes

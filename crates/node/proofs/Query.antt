@@ -47,10 +47,10 @@ module _ (n : Node) (qb : List ℕ) (q : Query) (rq : readQuery qb ≡ Read q) w
       }
 
   -- why a number k is given, and that a miss is added only to fewer than 10
-  Why : ℕ → Type 0
+  unfoldable pub Why : ℕ → Type 0
   Why k = QueryRefused n qb k × (19 ≤ k → n .own .misses < mostMisses)
 
-  why : (k : ℕ) → 1 ≤ k → queryRefusal n q ≡ k → Why k
+  pub why : (k : ℕ) → 1 ≤ k → queryRefusal n q ≡ k → Why k
   unfolding queryRefusal isListed t row Why
   why k h =
       by-rule (isHalted n) 3 _ k refl (λ e a. (halted e (eqb-true _ _ a), λ l. absurd (omega arith)))

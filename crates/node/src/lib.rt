@@ -1,6 +1,10 @@
 // The node, and what each of its calls hands back.
 use state::State;
 
+mod calls;
+mod own_part;
+mod verdicts;
+
 // What is this node's alone (01: its own part).
 pub struct Own {
     pub seat: u8,

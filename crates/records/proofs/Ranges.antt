@@ -10,7 +10,9 @@ use borrow.Author.Tests.{eqb-true, ltb-true, leb-true}
 use Rattle.lists.proofs.Tests.{cond-cases}
 use Rattle.binary.specs.Number.{Bytes, field, byteAt, isFramed, isRecord}
 use Rattle.binary.proofs.Number.{number-fits, bytes-drop}
+use Rattle.binary.proofs.Frames.{framed-length}
 use Rattle.records.specs.declared.Action.{Action}
+use Rattle.records.specs.declared.Announcement.{Announcement}
 use Rattle.records.specs.declared.AnnouncementRead.{AnnouncementRead}
 use Rattle.records.specs.declared.AnnouncementRead.the-variants as A
 use Rattle.records.specs.declared.StartRead.{StartRead}
@@ -89,6 +91,13 @@ module _ (b : List ℕ) (h : Bytes b) where
         (λ _. cond-cases (InRange b) (eqb kind 8) (λ _. grant)
         (λ _. cond-cases (InRange b) (eqb kind 9) (λ _. end)
         (λ _. tt)))))))))
+
+-- An announcement that is read is 24 bytes long.
+pub announcement-size : (b : List ℕ) (a : Announcement) → readAnnouncement b ≡ A.Read a → length b ≡ 24
+unfolding readAnnouncement
+announcement-size b a =
+    cond-cases (λ (r : AnnouncementRead). r ≡ A.Read a → length b ≡ 24) (isFramed 22 b) (λ f e. framed-length 22 b f)
+    (λ f e. absurd (let z : _≡_ {A = ℕ} 0 1 = cc in omega arith))
 
 pub announcements-in-range : AnnouncementsInRange
 unfolding readAnnouncement InRange

@@ -16,7 +16,7 @@ ghost use lib.ListN.{length};
 ghost use Rattle.records.specs.Announcement as spec;
 
 // Every byte from an index on is zero.
-fn is_zero_from(at: usize, b: &[u8]) -> bool
+pub fn is_zero_from(at: usize, b: &[u8]) -> bool
     ensures { λ r. ⌜ r ≡ spec.isZeroFrom at (now (b .entry)) ⌝ }
 {
     let mut i = at;

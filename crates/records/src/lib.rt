@@ -7,6 +7,7 @@ mod announcements;
 mod sheets;
 mod start_query;
 
+pub use announcements::is_zero_from;
 pub use announcements::read_announcement;
 pub use sheets::counted_seats;
 pub use sheets::is_sheet;

@@ -1,0 +1,55 @@
+use mathlib.Core.Path.{sym, _∙_}
+use denote.Ref.{now}
+use Rattle.records.proofs.Ranges.{announcement-size}
+use Rattle.node.specs.Deliver.{deliverOf}
+use borrow.Author.Needs.{needs}
+use Rattle.node.proofs.Node.deliver.Statement.{statement}
+use Rattle.node.proofs.Node.deliver.Tie as tie
+
+read-announcement-requires : tie.Need-read-announcement-requires
+read-announcement-requires c κs = search needs
+
+enum-known-read : tie.Need-enum-known-read
+enum-known-read c = search needs
+
+enum-told : tie.Need-enum-told
+enum-told c = search needs
+
+refuse-delivery-requires : tie.Need-refuse-delivery-requires
+refuse-delivery-requires c κs = search needs
+
+returns : tie.Need-returns
+unfolding deliverOf
+returns c = rw (c .refuse-delivery .ensures, ← c .before .before .before .read-announcement .ensures, c .before .enum-told .given .1)
+
+is-sheet-requires : tie.Need-is-sheet-requires
+is-sheet-requires c κs = search needs
+
+deliver-read-requires : tie.Need-deliver-read-requires
+deliver-read-requires c κs = (announcement-size (now (c .before .before .before .before .before .before .before .before .args .announcement)) _ (sym (c .before .before .before .before .before .read-announcement .ensures) ∙ c .before .before .before .read .given .1), sym (c .before .is-sheet .ensures) ∙ c .if1 .taken)
+
+returns-2 : tie.Need-returns-2
+unfolding deliverOf
+returns-2 c = rw (c .deliver-read .ensures, ← c .before .before .before .before .before .before .read-announcement .ensures, c .before .before .before .before .read .given .1, sym (c .before .before .is-sheet .ensures) ∙ c .before .if1 .taken)
+
+refuse-delivery-requires-2 : tie.Need-refuse-delivery-requires-2
+refuse-delivery-requires-2 c κs = search needs
+
+returns-3 : tie.Need-returns-3
+unfolding deliverOf
+returns-3 c = rw (c .refuse-delivery2 .ensures, ← c .before .before .before .before .before .before .read-announcement .ensures, c .before .before .before .before .read .given .1, sym (c .before .before .is-sheet .ensures) ∙ c .before .if1 .left)
+
+pub deliver-spec : {M : Type 1} → statement M
+deliver-spec =
+    tie.close
+    (tie.spec
+    read-announcement-requires
+    enum-known-read
+    enum-told
+    refuse-delivery-requires
+    returns
+    is-sheet-requires
+    deliver-read-requires
+    returns-2
+    refuse-delivery-requires-2
+    returns-3)

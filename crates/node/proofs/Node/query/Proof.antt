@@ -1,0 +1,52 @@
+use mathlib.Core.Path.{refl, sym, _∙_}
+use native.Mathlib.Omega.{arith}
+use denote.Ref.{now}
+use Rattle.node.specs.Query.{queryOf}
+use Rattle.node.proofs.Query.{Why, why}
+use borrow.Author.Needs.{needs}
+use Rattle.node.proofs.Node.query.Statement.{statement}
+use Rattle.node.proofs.Node.query.Tie as tie
+
+read-query-requires : tie.Need-read-query-requires
+read-query-requires c κs = search needs
+
+enum-known-read : tie.Need-enum-known-read
+enum-known-read c = search needs
+
+enum-told : tie.Need-enum-told
+enum-told c = search needs
+
+reply-to-query-requires : tie.Need-reply-to-query-requires
+reply-to-query-requires c κs = search needs
+
+returns : tie.Need-returns
+unfolding queryOf
+returns c = rw (c .reply-to-query .ensures, ← c .before .before .before .read-query .ensures, c .before .enum-told .given .1)
+
+query-refusal-requires : tie.Need-query-refusal-requires
+query-refusal-requires c κs = search needs
+
+reply-to-query-requires-2 : tie.Need-reply-to-query-requires-2
+unfolding Why
+reply-to-query-requires-2 c κs =
+    λ h.
+    let a = c .before .before .before .before .before .before .args in
+    let e = c .query-refusal .ensures in
+    why (a .self) (now (a .query)) _ (sym (c .before .before .before .before .read-query .ensures) ∙ c .before .before .read .given .1) (c .query-refusal .result) (omega arith) (sym e) .1 h
+
+returns-2 : tie.Need-returns-2
+unfolding queryOf
+returns-2 c = rw (c .reply-to-query2 .ensures, c .before .query-refusal .ensures, ← c .before .before .before .before .before .read-query .ensures, c .before .before .before .read .given .1)
+
+pub query-spec : {M : Type 1} → statement M
+query-spec =
+    tie.close
+    (tie.spec
+    read-query-requires
+    enum-known-read
+    enum-told
+    reply-to-query-requires
+    returns
+    query-refusal-requires
+    reply-to-query-requires-2
+    returns-2)

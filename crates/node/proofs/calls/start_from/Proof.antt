@@ -1,0 +1,27 @@
+use borrow.Author.Tests.{eq-eqb, ne-eqb}
+use Rattle.node.specs.Start.{startRead}
+use borrow.Author.Needs.{needs}
+use Rattle.node.proofs.calls.start_from.Statement.{statement}
+use Rattle.node.proofs.calls.start_from.Tie as tie
+
+start-refusal-requires : tie.Need-start-refusal-requires
+start-refusal-requires c κs = search needs
+
+refuse-start-requires : tie.Need-refuse-start-requires
+refuse-start-requires c κs = search needs
+
+returns : tie.Need-returns
+unfolding startRead
+returns c = rw (c .refuse-start .ensures, ← c .before .before .start-refusal .ensures, ne-eqb (c .before .before .start-refusal .result) 0 (c .before .if1 .taken))
+
+own-afresh-requires : tie.Need-own-afresh-requires
+own-afresh-requires c κs = search needs
+
+returns-2 : tie.Need-returns-2
+unfolding startRead
+returns-2 c = rw (c .own-afresh .ensures, ← c .before .before .start-refusal .ensures, eq-eqb (c .before .before .start-refusal .result) 0 (c .before .if1 .left))
+
+pub start-from-spec : {M : Type 1} → statement M
+start-from-spec =
+    tie.close
+    (tie.spec start-refusal-requires refuse-start-requires returns own-afresh-requires returns-2)

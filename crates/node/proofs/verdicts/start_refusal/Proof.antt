@@ -1,0 +1,34 @@
+use Rattle.node.specs.Start.{startRefusal}
+use borrow.Author.Needs.{needs}
+use Rattle.node.proofs.verdicts.start_refusal.Statement.{statement}
+use Rattle.node.proofs.verdicts.start_refusal.Tie as tie
+
+seat-at-requires : tie.Need-seat-at-requires
+seat-at-requires c κs = search needs
+
+is-active-requires : tie.Need-is-active-requires
+is-active-requires c κs = search needs
+
+refuse-if-requires : tie.Need-refuse-if-requires
+refuse-if-requires c κs = search needs
+
+refuse-if-requires-2 : tie.Need-refuse-if-requires-2
+refuse-if-requires-2 c κs = search needs
+
+or-else-requires : tie.Need-or-else-requires
+or-else-requires c κs = search needs
+
+returns : tie.Need-returns
+unfolding startRefusal
+returns c = rw (c .or-else .ensures, c .before .refuse-if2 .ensures, c .before .before .before .before .refuse-if .ensures, c .before .before .before .before .before .is-active .ensures, c .before .before .before .before .before .before .seat-at .ensures)
+
+pub start-refusal-spec : {M : Type 1} → statement M
+start-refusal-spec =
+    tie.close
+    (tie.spec
+    seat-at-requires
+    is-active-requires
+    refuse-if-requires
+    refuse-if-requires-2
+    or-else-requires
+    returns)

@@ -1,0 +1,34 @@
+use Rattle.node.specs.Deliver.{voteRefusal}
+use borrow.Author.Needs.{needs}
+use Rattle.node.proofs.verdicts.vote_refusal.Statement.{statement}
+use Rattle.node.proofs.verdicts.vote_refusal.Tie as tie
+
+can-vote-requires : tie.Need-can-vote-requires
+can-vote-requires c κs = search needs
+
+refuse-if-requires : tie.Need-refuse-if-requires
+refuse-if-requires c κs = search needs
+
+voted-otherwise-requires : tie.Need-voted-otherwise-requires
+voted-otherwise-requires c κs = search needs
+
+refuse-if-requires-2 : tie.Need-refuse-if-requires-2
+refuse-if-requires-2 c κs = search needs
+
+or-else-requires : tie.Need-or-else-requires
+or-else-requires c κs = search needs
+
+returns : tie.Need-returns
+unfolding voteRefusal
+returns c = rw (c .or-else .ensures, c .before .refuse-if2 .ensures, c .before .before .voted-otherwise .ensures, c .before .before .before .refuse-if .ensures, c .before .before .before .before .can-vote .ensures)
+
+pub vote-refusal-spec : {M : Type 1} → statement M
+vote-refusal-spec =
+    tie.close
+    (tie.spec
+    can-vote-requires
+    refuse-if-requires
+    voted-otherwise-requires
+    refuse-if-requires-2
+    or-else-requires
+    returns)

@@ -1,0 +1,260 @@
+// The four calls, by value: each consumes the node and hands back the next one with its answer.
+ghost use mathlib.Core.Path.{_≡_};
+ghost use mathlib.Core.Bool.{true};
+ghost use Prim.Native.Nat.{_≤_, _<_};
+ghost use lib.ListN.{length};
+ghost use Rattle.records.specs.Sheet.{isSheet};
+ghost use Rattle.node.specs.Deliver.{refusesDelivery, performs, votes, deliverRead, deliverOf};
+ghost use Rattle.node.specs.Query.{queryReply, queryOf};
+ghost use Rattle.node.specs.Start.{blankNode, refusesStart, startRead, startOf};
+ghost use Rattle.node.specs.Give.{checkpointOf, checkpointSlice};
+use crate::CheckpointAnswer;
+use crate::CheckpointReply;
+use crate::DeliverAnswer;
+use crate::DeliverReply;
+use crate::Node;
+use crate::QueryAnswer;
+use crate::QueryReply;
+use crate::StartAnswer;
+use crate::StartReply;
+use crate::own_part::own_afresh;
+use crate::own_part::with_misses;
+use crate::own_part::with_vote;
+use crate::verdicts::deliver_refusal;
+use crate::verdicts::query_refusal;
+use crate::verdicts::shows_quorum;
+use crate::verdicts::start_refusal;
+use crate::verdicts::vote_refusal;
+use actions::effects::perform;
+use checkpoint::read_checkpoint;
+use checkpoint::write_checkpoint;
+use records::Announcement;
+use records::AnnouncementRead;
+use records::QueryRead;
+use records::Start;
+use records::StartRead;
+use records::is_sheet;
+use records::read_announcement;
+use records::read_query;
+use records::read_start;
+use state::Cycle;
+use state::Day;
+use state::Login;
+use state::Proposal;
+use state::Seat;
+use state::State;
+
+fn refuse_delivery(n: Node, number: u8) -> DeliverReply
+    ensures { λ r. ⌜ r ≡ refusesDelivery n number ⌝ }
+{
+    DeliverReply {
+        node: n,
+        answer: DeliverAnswer::Refused(number),
+    }
+}
+
+fn perform_delivery(n: Node, a: Announcement) -> DeliverReply
+    ensures { λ r. ⌜ r ≡ performs n a ⌝ }
+{
+    let state = n.state;
+    let own = n.own;
+    let next = perform(state, a);
+    let afresh = own_afresh(own.seat, own.life);
+    DeliverReply {
+        node: Node {
+            state: next,
+            own: afresh,
+        },
+        answer: DeliverAnswer::Done,
+    }
+}
+
+fn vote_for(n: Node, announcement: &[u8]) -> DeliverReply
+    requires { ⌜ length (now announcement) ≡ 24 ⌝ }
+    ensures { λ r. ⌜ r ≡ votes n (now (announcement .entry)) ⌝ }
+{
+    let state = n.state;
+    let own = n.own;
+    let voted = with_vote(own, announcement);
+    DeliverReply {
+        node: Node {
+            state: state,
+            own: voted,
+        },
+        answer: DeliverAnswer::Voted,
+    }
+}
+
+// The blank node, all zero.
+fn blank_node() -> Node
+    ensures { λ r. ⌜ r ≡ blankNode ⌝ }
+{
+    let seats = [Seat {
+        standing: 0,
+        life: 0,
+    }; 32];
+    let proposals = [Proposal {
+        cycle: Cycle(0),
+        day: Day(0),
+        kind: 0,
+        arguments: 0,
+    }; 16];
+    let logins = [Login {
+        login: 0,
+        end: Day(0),
+        rights: 0,
+    }; 64];
+    let own = own_afresh(0, 0);
+    Node {
+        state: State {
+            cycle: Cycle(0),
+            day: Day(0),
+            trustees1: 0,
+            trustees2: 0,
+            margin: 0,
+            least: 0,
+            silence: 0,
+            seats: seats,
+            proposals: proposals,
+            logins: logins,
+        },
+        own: own,
+    }
+}
+
+fn refuse_start(number: u8) -> StartReply
+    ensures { λ r. ⌜ r ≡ refusesStart number ⌝ }
+{
+    let node = blank_node();
+    StartReply {
+        node: node,
+        answer: StartAnswer::Refused(number),
+    }
+}
+
+// From the state of a well-formed checkpoint.
+fn start_from(s: State, x: Start) -> StartReply
+    ensures { λ r. ⌜ r ≡ startRead s x ⌝ }
+{
+    let k = start_refusal(s, x);
+    if k != 0 {
+        return refuse_start(k);
+    }
+    let own = own_afresh(x.seat, x.life);
+    StartReply {
+        node: Node { state: s, own: own },
+        answer: StartAnswer::Started,
+    }
+}
+
+// A well-formed announcement with a well-formed sheet.
+fn deliver_read(n: Node, announcement: &[u8], a: Announcement, sheet: &[u8]) -> DeliverReply
+    requires { ⌜ (length (now announcement) ≡ 24) × (isSheet (now sheet) ≡ true) ⌝ }
+    ensures { λ r. ⌜ r ≡ deliverRead n (now (announcement .entry)) a (now (sheet .entry)) ⌝ }
+{
+    let k = deliver_refusal(n, a, sheet);
+    if k != 0 {
+        return refuse_delivery(n, k);
+    }
+    let state = n.state;
+    if shows_quorum(state, sheet) {
+        return perform_delivery(n, a);
+    }
+    let v = vote_refusal(n, announcement);
+    if v != 0 {
+        return refuse_delivery(n, v);
+    }
+    vote_for(n, announcement)
+}
+
+// The reply to a query that is refused with this number, or open where it is 0.
+fn reply_to_query(n: Node, number: u8) -> QueryReply
+    requires { ⌜ (19 ≤ number → n .own .misses < 10) ⌝ }
+    ensures { λ r. ⌜ r ≡ queryReply n number ⌝ }
+{
+    let own = n.own;
+    let mut node = n;
+    if number == 0 {
+        let clear = with_misses(own, 0);
+        node.own = clear;
+        return QueryReply {
+            node: node,
+            answer: QueryAnswer::Open,
+        };
+    }
+    if number >= 19 {
+        let missed = with_misses(own, own.misses + 1);
+        node.own = missed;
+        return QueryReply {
+            node: node,
+            answer: QueryAnswer::Refused(number),
+        };
+    }
+    QueryReply {
+        node: node,
+        answer: QueryAnswer::Refused(number),
+    }
+}
+
+impl Node {
+    // From a checkpoint, at the seat and under the life of the start record. A refused start hands back the blank node.
+    pub fn start(checkpoint: &[u8], start: &[u8]) -> StartReply
+        ensures { λ r. ⌜ r ≡ startOf (now (checkpoint .entry)) (now (start .entry)) ⌝ }
+    {
+        let read = read_start(start);
+        let StartRead::Read(x) = read else {
+            return refuse_start(1);
+        };
+        let c = read_checkpoint(checkpoint);
+        if c.ok {
+            let state = c.state;
+            return start_from(state, x);
+        }
+        refuse_start(1)
+    }
+
+    // Performs the announcement where the sheet shows a quorum, else votes for it.
+    pub fn deliver(self, announcement: &[u8], sheet: &[u8]) -> DeliverReply
+        ensures { λ r. ⌜ r ≡ deliverOf self (now (announcement .entry)) (now (sheet .entry)) ⌝ }
+    {
+        let read = read_announcement(announcement);
+        let AnnouncementRead::Read(a) = read else {
+            return refuse_delivery(self, 1);
+        };
+        if is_sheet(sheet) {
+            return deliver_read(self, announcement, a, sheet);
+        }
+        refuse_delivery(self, 2)
+    }
+
+    // May the login use the right on the day?
+    pub fn query(self, query: &[u8]) -> QueryReply
+        ensures { λ r. ⌜ r ≡ queryOf self (now (query .entry)) ⌝ }
+    {
+        let read = read_query(query);
+        let QueryRead::Read(q) = read else {
+            return reply_to_query(self, 1);
+        };
+        let number = query_refusal(self, q);
+        reply_to_query(self, number)
+    }
+
+    // Writes the checkpoint to the front of the slice, where it has room.
+    pub fn checkpoint(self, out: &mut [u8]) -> CheckpointReply
+        ensures { λ r. ⌜ r ≡ checkpointOf self (now (out .entry)) ⌝ }
+        ensures { λ r. ⌜ now (out .exit) ≡ checkpointSlice self (now (out .entry)) ⌝ }
+    {
+        if out.len() < 1108 {
+            return CheckpointReply {
+                node: self,
+                answer: CheckpointAnswer::Refused(22),
+            };
+        }
+        let state = self.state;
+        write_checkpoint(state, out);
+        CheckpointReply {
+            node: self,
+            answer: CheckpointAnswer::Given,
+        }
+    }
+}

@@ -11,7 +11,7 @@ use Rattle.lists.proofs.Tests.{cond-cases, or-false-of}
 use Rattle.binary.specs.Number.{overwrite}
 use Rattle.node_c.specs.declared.ImageRead.{ImageRead}
 use Rattle.node_c.specs.Image.{imageSize, imageBytes, isImage, readImage}
-use Rattle.node_c.specs.Calls.{HandedBack, Returned, writesImage, return, onImage}
+use Rattle.node_c.specs.Calls.{HandedBack, Returned, tryRoom, writesImage, return, onImage}
 use Rattle.node_c.specs.Claims.{Writes, Returning, no-room, writes, leaves, CallsReturn, CallsOnImages}
 
 -- what the tests of the definition tell
@@ -43,6 +43,14 @@ leaves-to k n = at (writesImage k) refl
     at : (b : Bool) → writesImage k ≡ b → writesImage k ≡ false
     at true e = absurd (n (writes-of k e))
     at false e = e
+
+-- a slice that has room keeps the number
+pub has-room-number : (k : ℕ) → tryRoom true k ≡ k
+has-room-number k = at (eqb k 1 || eqb k 2)
+  where
+    at : (t : Bool) → cond t k k ≡ k
+    at true = refl
+    at false = refl
 
 module _ (r : HandedBack) (out : List ℕ) where
   -- with this number, where an image is written or not

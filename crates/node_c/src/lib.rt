@@ -1,6 +1,7 @@
 // The image: a node as 1,139 bytes, which the firmware keeps from one call to the next.
 use node::Node;
 
+mod entries;
 mod read;
 mod write;
 

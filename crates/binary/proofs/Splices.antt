@@ -1,18 +1,14 @@
 -- Laws of writes at a position.
-use Prim.Native.Nat.{ℕ, suc, _+_, _-_, _≤_}
+use Prim.Native.Nat.{ℕ, suc, _+_, _≤_}
 use native.Mathlib.Nat.{add-zero, zero-add, add-assoc, add-suc}
 use native.Mathlib.Omega.{arith}
 use native.Mathlib.Numerals.{add-one}
 use mathlib.Core.Path.{_≡_, refl, sym, ap, _∙_}
 use mathlib.Core.List.{List, [], _∷_, _++_, append-assoc}
-use lib.ListN.{length, set, take, drop, length-append, length-drop, take-append-drop}
-use lib.Seq.{take-all, length-take-le, sets, sets-eq, take-at, drop-append-add, drop-drop}
+use lib.ListN.{length, set, take, drop, length-append, take-append-drop}
+use lib.Seq.{length-take-le, sets, sets-eq, take-at, drop-append-add, drop-drop}
 use Rattle.binary.specs.Number.{overwrite}
 use Rattle.binary.specs.Splice.{splice}
-
-pub splice-length : (d : List ℕ) (at : ℕ) (v : List ℕ) → at + length v ≤ length d → length (splice d at v) ≡ length d
-unfolding splice
-splice-length d at v h = simp (length-append, length-drop, length-take-le at d (omega arith)) (omega arith)
 
 -- a run of stores
 pub splice-sets : (d : List ℕ) (at : ℕ) (v : List ℕ) → at + length v ≤ length d → sets d at v ≡ splice d at v
@@ -78,12 +74,9 @@ next-put d₀ d d′ v w at k n h e l b = record {
   ends = ap (λ (m : ℕ). at + m) (length-append v w) ∙ sym (add-assoc at (length v) (length w)) ∙ ap (λ (m : ℕ). m + length w) (h .ends) ∙ ap (λ (m : ℕ). k + m) l;
 }
 
--- all is written: at the place where it starts, and at the front, where the tail stays as it was
+-- all is written, from the place where it starts
 pub all-put : (d₀ d v u : List ℕ) (at k : ℕ) → Wrote d₀ at k v d → v ≡ u → d ≡ splice d₀ at u
 all-put d₀ d v u at k h e = h .is ∙ ap (splice d₀ at) e
-
-pub front-put : (d₀ d v u : List ℕ) (k : ℕ) → Wrote d₀ 0 k v d → v ≡ u → d ≡ u ++ drop k d₀
-front-put d₀ d v u k h e = h .is ∙ splice-front d₀ v k (sym (zero-add (length v)) ∙ h .ends) ∙ ap (λ (l : List ℕ). l ++ drop k d₀) e
 
 -- fields one after the other, as a run of writes joins them and as a codec does
 abbrev pub lefts : List ℕ → List (List ℕ) → List ℕ
@@ -101,15 +94,3 @@ lefts-append u v (w ∷ ws) = ap (λ (l : List ℕ). lefts l ws) (append-assoc u
 pub lefts-rights : (v : List ℕ) (ws : List (List ℕ)) → lefts v ws ≡ rights v ws
 lefts-rights v [] = refl
 lefts-rights v (w ∷ ws) = lefts-append v w ws ∙ ap (λ (l : List ℕ). v ++ l) (lefts-rights w ws)
-
--- a part that was lent and came back as v
-pub splice-part : (d : List ℕ) (at n : ℕ) (y v : List ℕ) → y ≡ v → length v ≡ n → take at d ++ (y ++ drop (at + n - at) (drop at d)) ≡ splice d at v
-unfolding splice
-splice-part d at n y v e l =
-    let k : at + (at + n - at) ≡ at + length v = omega arith in
-    ap (λ (z : List ℕ). take at d ++ (z ++ drop (at + n - at) (drop at d))) e
-    ∙ ap (λ (z : List ℕ). take at d ++ (v ++ z)) (drop-drop (at + n - at) at d ∙ ap (λ (m : ℕ). drop m d) k)
-
--- a slice from at to its end
-pub part-rest : (s : List ℕ) (at : ℕ) → take (length s - at) (drop at s) ≡ drop at s
-part-rest s at = take-all (length s - at) (drop at s) (rw length-drop (omega arith))

@@ -79,7 +79,7 @@ body =
       ),
     ))
 
--- "The count bytes": the used rows of each table
+-- "proposal count 1", "login count 1": the number of used rows of each table
 abbrev pub counted : State → Counted
 counted s = record { proposals = count isProposal (s .proposals); logins = count isLogin (s .logins); state = s }
 

@@ -85,8 +85,8 @@ fn vote_for(n: Node, announcement: &[u8]) -> DeliverReply
     }
 }
 
-// The blank node, all zero.
-fn blank_node() -> Node
+// The blank node, all zero: it stands for none.
+pub fn blank_node() -> Node
     ensures { λ r. ⌜ r ≡ blankNode ⌝ }
 {
     let seats = [Seat {

@@ -5,6 +5,8 @@ mod calls;
 mod own_part;
 mod verdicts;
 
+pub use calls::blank_node;
+
 // What is this node's alone (01: its own part).
 pub struct Own {
     pub seat: u8,

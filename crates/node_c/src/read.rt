@@ -11,14 +11,11 @@ use binary::u32_at;
 use checkpoint::read_checkpoint;
 use node::Node;
 use node::Own;
+use node::blank_node;
 use records::AnnouncementRead;
 use records::is_zero_from;
 use records::read_announcement;
 use state::Cycle;
-use state::Day;
-use state::Login;
-use state::Proposal;
-use state::Seat;
 use state::State;
 use state::seat_table::FREE;
 use state::seat_table::seat_at;
@@ -74,47 +71,6 @@ fn is_well_formed_own(s: State, own: Own, vote: &[u8]) -> bool
     let seat = seat_at(seats, own.seat);
     let voted = is_well_formed_vote(s.cycle, own.voted, vote);
     (own.seat < 32) & ((seat.standing != FREE) & ((1 <= own.life) & (voted & (own.misses <= 10))))
-}
-
-// The node that stands for none.
-fn blank_node() -> Node
-    ensures { λ r. ⌜ r ≡ blankNode ⌝ }
-{
-    let seats = [Seat {
-        standing: 0,
-        life: 0,
-    }; 32];
-    let proposals = [Proposal {
-        cycle: Cycle(0),
-        day: Day(0),
-        kind: 0,
-        arguments: 0,
-    }; 16];
-    let logins = [Login {
-        login: 0,
-        end: Day(0),
-        rights: 0,
-    }; 64];
-    let state = State {
-        cycle: Cycle(0),
-        day: Day(0),
-        trustees1: 0,
-        trustees2: 0,
-        margin: 0,
-        least: 0,
-        silence: 0,
-        seats,
-        proposals,
-        logins,
-    };
-    let own = Own {
-        seat: 0,
-        life: 0,
-        voted: false,
-        vote: [0; 24],
-        misses: 0,
-    };
-    Node { state, own }
 }
 
 // The answer to bytes that are not an image.

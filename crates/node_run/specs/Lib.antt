@@ -1,0 +1,2 @@
+-- What node-run keeps from request to request.
+pub mod Fits

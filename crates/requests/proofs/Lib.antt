@@ -1,0 +1,4 @@
+-- Laws of frames and of lines.
+pub mod Frames
+pub mod Writing
+pub mod Extents

@@ -1,0 +1,37 @@
+use Rattle.requests.proofs.Frames.{part-of}
+use borrow.Author.Needs.{needs}
+use Rattle.requests.proofs.lines.put_decimal.Statement.{statement}
+use Rattle.requests.proofs.lines.put_decimal.Tie as tie
+
+digits-of-requires : tie.Need-digits-of-requires
+digits-of-requires c κs = search needs
+
+sub-put-bytes : tie.Need-sub-put-bytes
+sub-put-bytes c = search needs
+
+part-put-bytes-start : tie.Need-part-put-bytes-start
+part-put-bytes-start c = search needs
+
+part-put-bytes-end : tie.Need-part-put-bytes-end
+part-put-bytes-end c = search needs
+
+put-bytes-requires : tie.Need-put-bytes-requires
+put-bytes-requires c κs = search needs
+
+same-length : tie.Need-same-length
+same-length c = search needs
+
+returns : tie.Need-returns
+returns c = let h = c .before .before .before .before .before .before .before .digits-of .ensures in rw (part-of 10 _ _ (h .1 .0), h .0) at (c .before .before .put-bytes .ensures)
+
+pub put-decimal-spec : {M : Type 1} → statement M
+put-decimal-spec =
+    tie.close
+    (tie.spec
+    digits-of-requires
+    sub-put-bytes
+    part-put-bytes-start
+    part-put-bytes-end
+    put-bytes-requires
+    same-length
+    returns)

@@ -1,0 +1,86 @@
+use borrow.Author.Tests.{eq-eqb, ne-eqb}
+use mathlib.Core.Path.{refl, sym, _∙_}
+use Rattle.requests.proofs.Frames.{frame-fits}
+use Rattle.requests.specs.Requests.{stepOf}
+use borrow.Author.Needs.{needs}
+use Rattle.requests.proofs.steps.take_step.Statement.{statement}
+use Rattle.requests.proofs.steps.take_step.Tie as tie
+
+frame-requires : tie.Need-frame-requires
+frame-requires c κs = search needs
+
+enum-known-front : tie.Need-enum-known-front
+enum-known-front c = search needs
+
+enum-told : tie.Need-enum-told
+enum-told c = search needs
+
+cut-requires : tie.Need-cut-requires
+cut-requires c κs = search needs
+
+returns : tie.Need-returns
+unfolding stepOf
+returns c = rw (c .cut .ensures, sym (c .before .before .before .frame .ensures) ∙ c .before .enum-told .given .1) refl
+
+step-start-requires : tie.Need-step-start-requires
+step-start-requires c κs = frame-fits _ _ _ (sym (c .before .before .before .before .frame .ensures) ∙ c .before .before .front .given .1)
+
+returns-2 : tie.Need-returns-2
+unfolding stepOf
+returns-2 c = rw (sym (c .before .before .before .before .before .frame .ensures) ∙ c .before .before .before .front .given .1, eq-eqb _ _ (c .before .if1 .taken), c .step-start .ensures) refl
+
+is-none-requires : tie.Need-is-none-requires
+is-none-requires c κs = search needs
+
+cut-requires-2 : tie.Need-cut-requires-2
+cut-requires-2 c κs = search needs
+
+returns-3 : tie.Need-returns-3
+unfolding stepOf
+returns-3 c = rw (sym (c .before .before .before .before .before .before .before .frame .ensures) ∙ c .before .before .before .before .before .front .given .1, ne-eqb _ _ (c .before .before .before .if1 .left), sym (c .before .before .is-none .ensures) ∙ c .before .if2 .taken, c .cut2 .ensures) refl
+
+step-query-requires : tie.Need-step-query-requires
+step-query-requires c κs = frame-fits _ _ _ (sym (c .before .before .before .before .before .before .before .frame .ensures) ∙ c .before .before .before .before .before .front .given .1)
+
+returns-4 : tie.Need-returns-4
+unfolding stepOf
+returns-4 c = rw (sym (c .before .before .before .before .before .before .before .before .frame .ensures) ∙ c .before .before .before .before .before .before .front .given .1, ne-eqb _ _ (c .before .before .before .before .if1 .left), sym (c .before .before .before .is-none .ensures) ∙ c .before .before .if2 .left, eq-eqb _ _ (c .before .if3 .taken), c .step-query .ensures) refl
+
+is-announcement-requires : tie.Need-is-announcement-requires
+is-announcement-requires c κs = search needs
+
+step-deliver-requires : tie.Need-step-deliver-requires
+step-deliver-requires c κs = frame-fits _ _ _ (sym (c .before .before .before .before .before .before .before .before .before .frame .ensures) ∙ c .before .before .before .before .before .before .before .front .given .1)
+
+returns-5 : tie.Need-returns-5
+unfolding stepOf
+returns-5 c = rw (sym (c .before .before .before .before .before .before .before .before .before .before .frame .ensures) ∙ c .before .before .before .before .before .before .before .before .front .given .1, ne-eqb _ _ (c .before .before .before .before .before .before .if1 .left), sym (c .before .before .before .before .before .is-none .ensures) ∙ c .before .before .before .before .if2 .left, ne-eqb _ _ (c .before .before .before .if3 .left), sym (c .before .before .is-announcement .ensures) ∙ c .before .if4 .taken, c .step-deliver .ensures) refl
+
+cut-requires-3 : tie.Need-cut-requires-3
+cut-requires-3 c κs = search needs
+
+returns-6 : tie.Need-returns-6
+unfolding stepOf
+returns-6 c = rw (sym (c .before .before .before .before .before .before .before .before .before .before .frame .ensures) ∙ c .before .before .before .before .before .before .before .before .front .given .1, ne-eqb _ _ (c .before .before .before .before .before .before .if1 .left), sym (c .before .before .before .before .before .is-none .ensures) ∙ c .before .before .before .before .if2 .left, ne-eqb _ _ (c .before .before .before .if3 .left), sym (c .before .before .is-announcement .ensures) ∙ c .before .if4 .left, c .cut3 .ensures) refl
+
+pub take-step-spec : {M : Type 1} → statement M
+take-step-spec =
+    tie.close
+    (tie.spec
+    frame-requires
+    enum-known-front
+    enum-told
+    cut-requires
+    returns
+    step-start-requires
+    returns-2
+    is-none-requires
+    cut-requires-2
+    returns-3
+    step-query-requires
+    returns-4
+    is-announcement-requires
+    step-deliver-requires
+    returns-5
+    cut-requires-3
+    returns-6)

@@ -1,0 +1,44 @@
+-- "Records are framed by their length and placed by their kind (1 to 9, 16, 18, 19, 20)."
+use Prim.Native.Nat.{ℕ, _+_}
+use mathlib.Core.List.{List}
+use mathlib.Core.Bool.{Bool, cond, not, _&&_, _||_}
+use lib.Dec.{eqb, leb}
+use lib.ListN.{length, drop}
+use Rattle.binary.specs.Number.{field}
+use Rattle.requests.specs.declared.Frame.{Frame}
+use Rattle.requests.specs.declared.Frame.the-variants.{Record, Cut}
+
+-- the bytes of the record at the front of b, its length field with them
+abbrev pub sizeOf : List ℕ → ℕ
+sizeOf b = field 2 0 b + 2
+
+abbrev pub kindOf : List ℕ → ℕ
+kindOf b = field 2 2 b
+
+abbrev pub isAnnouncement : ℕ → Bool
+isAnnouncement kind = leb 1 kind && leb kind 9
+
+-- "A record too short for its kind (a sheet: under 7 bytes)": the fewest bytes of a record of that kind
+unfoldable pub leastSize : ℕ → ℕ
+leastSize kind =
+    cond (isAnnouncement kind) 24
+    (cond (eqb kind 16) 1108
+    (cond (eqb kind 18) 7
+    (cond (eqb kind 19) 9
+    (cond (eqb kind 20) 13 4))))
+
+-- b holds all of the record at its front
+unfoldable pub holdsRecord : List ℕ → Bool
+holdsRecord b = leb 4 (length b) && leb (sizeOf b) (length b)
+
+-- the record at the front of the input b
+unfoldable pub frameOf : List ℕ → Frame
+frameOf b = cond (holdsRecord b && leb (leastSize (kindOf b)) (sizeOf b)) (Record (sizeOf b) (kindOf b)) Cut
+
+-- "start and checkpoint (one request), then announcement and sheet (one), or query (one)"
+abbrev pub hasSecond : ℕ → Bool
+hasSecond kind = isAnnouncement kind || eqb kind 19
+
+-- b holds all records of the request at its front
+unfoldable pub holdsRequest : List ℕ → Bool
+holdsRequest b = holdsRecord b && (not (hasSecond (kindOf b)) || holdsRecord (drop (sizeOf b) b))

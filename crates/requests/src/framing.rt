@@ -1,0 +1,85 @@
+// The records at the front of the input.
+ghost use mathlib.Core.Path.{_≡_};
+ghost use Prim.Native.Nat.{_≤_};
+ghost use lib.ListN.{length};
+ghost use Rattle.requests.specs.Framing.{sizeOf, isAnnouncement, leastSize, holdsRecord, frameOf, hasSecond, holdsRequest};
+use crate::Frame;
+use binary::u16_at;
+
+// Whether a record of this kind is an announcement.
+pub fn is_announcement(kind: u16) -> bool
+    ensures { λ r. ⌜ r ≡ isAnnouncement kind ⌝ }
+{
+    (1 <= kind) & (kind <= 9)
+}
+
+// The fewest bytes of a record of this kind.
+fn least_size(kind: u16) -> usize
+    ensures { λ r. ⌜ r ≡ leastSize kind ⌝ }
+{
+    if is_announcement(kind) {
+        return 24;
+    }
+    match kind {
+        16 => 1108,
+        18 => 7,
+        19 => 9,
+        20 => 13,
+        _ => 4,
+    }
+}
+
+// The bytes of the record at the front, by its length field.
+fn size_of(b: &[u8]) -> usize
+    requires { ⌜ 4 ≤ length (now b) ⌝ }
+    ensures { λ r. ⌜ r ≡ sizeOf (now (b .entry)) ⌝ }
+{
+    (u16_at(b, 0) as usize) + 2
+}
+
+// Whether the bytes hold all of the record at their front.
+fn holds_record(b: &[u8]) -> bool
+    ensures { λ r. ⌜ r ≡ holdsRecord (now (b .entry)) ⌝ }
+{
+    if b.len() < 4 {
+        return false;
+    }
+    size_of(b) <= b.len()
+}
+
+// Frames the record at the front of the input.
+pub fn frame(b: &[u8]) -> Frame
+    ensures { λ r. ⌜ r ≡ frameOf (now (b .entry)) ⌝ }
+{
+    if holds_record(b) {
+        let size = size_of(b);
+        let kind = u16_at(b, 2);
+        if size < least_size(kind) {
+            return Frame::Cut;
+        }
+        return Frame::Record { size, kind };
+    }
+    Frame::Cut
+}
+
+// Whether a request whose first record has this kind has a second one.
+fn has_second(kind: u16) -> bool
+    ensures { λ r. ⌜ r ≡ hasSecond kind ⌝ }
+{
+    is_announcement(kind) | (kind == 19)
+}
+
+// Whether the bytes hold all records of the request at their front, so that more input changes nothing in its answer.
+pub fn holds_request(b: &[u8]) -> bool
+    ensures { λ r. ⌜ r ≡ holdsRequest (now (b .entry)) ⌝ }
+{
+    if holds_record(b) {
+        let size = size_of(b);
+        let kind = u16_at(b, 2);
+        if has_second(kind) {
+            return holds_record(&b[size..]);
+        }
+        return true;
+    }
+    false
+}

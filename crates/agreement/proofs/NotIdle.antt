@@ -152,7 +152,7 @@ divided-park = park divided (refl, (refl, (refl, (refl, tt)))) (refl, (refl, (tt
 split : ¬ Agreement divided
 unfolding calls-at-hosts
 split A =
-    let n = deliverOf (startOf firstCheckpoint startSeat0 .node) (grantTo 120) twoRows .node in
+    let n = deliverOf (startOf firstCheckpoint startSeat0 .node) (grantTo 120) (twoRows 0) .node in
     let k = deliverOf (startOf firstCheckpoint startSeat1 .node) (grantTo 121) otherRows .node in
     let e = A _ _ (List·Memᴰ·tail (List·Memᴰ·tail (List·Memᴰ·head refl))) (List·Memᴰ·tail (List·Memᴰ·tail (List·Memᴰ·tail (List·Memᴰ·head refl)))) (byValue 0) (throughC 1) n k refl refl refl in
     let z : _≡_ {A = ℕ} 120 121 = ap (λ (b : List ℕ). getD b 472 0) e in

@@ -32,15 +32,15 @@ commissioned calls = start (byValue 0) firstCheckpoint startSeat0 [] ∷ start (
 abbrev pub peaceful : History
 peaceful =
     commissioned
-    (deliver (byValue 0) (grantTo 120) twoRows []
+    (deliver (byValue 0) (grantTo 120) (twoRows 0) []
     ∷ deliver (throughC 1) (grantTo 120) otherRows room
-    ∷ deliver (throughC 1) endLogin twoRows room
+    ∷ deliver (throughC 1) endLogin (twoRows 0) room
     ∷ deliver (byValue 0) endLogin otherRows []
     ∷ [])
 
 -- each performs another announcement in one cycle: seat 1 counts on both sheets, and the margin is 0
 abbrev pub divided : History
-divided = commissioned (deliver (byValue 0) (grantTo 120) twoRows [] ∷ deliver (throughC 1) (grantTo 121) otherRows room ∷ [])
+divided = commissioned (deliver (byValue 0) (grantTo 120) (twoRows 0) [] ∷ deliver (throughC 1) (grantTo 121) otherRows room ∷ [])
 
 pub record WithinBound : Type 0 where
   pub park : Park firstCheckpoint peaceful

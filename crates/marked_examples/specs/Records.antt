@@ -30,9 +30,9 @@ removeOn day = 22 ∷ 0 ∷ 6 ∷ 0 ∷ 2 ∷ 0 ∷ 0 ∷ 0 ∷ day ∷ 0 ∷ 0 
 abbrev pub noRows : List ℕ
 noRows = 5 ∷ 0 ∷ 18 ∷ 0 ∷ 1 ∷ 0 ∷ 0 ∷ []
 
--- with both masks 1
-abbrev pub twoRows : List ℕ
-twoRows = 15 ∷ 0 ∷ 18 ∷ 0 ∷ 1 ∷ 1 ∷ 2 ∷ 0 ∷ 1 ∷ 0 ∷ 0 ∷ 0 ∷ 1 ∷ 1 ∷ 0 ∷ 0 ∷ 0 ∷ []
+-- with a level-2 mask below 256
+abbrev pub twoRows : ℕ → List ℕ
+twoRows mask2 = 15 ∷ 0 ∷ 18 ∷ 0 ∷ 1 ∷ mask2 ∷ 2 ∷ 0 ∷ 1 ∷ 0 ∷ 0 ∷ 0 ∷ 1 ∷ 1 ∷ 0 ∷ 0 ∷ 0 ∷ []
 
 -- "queries of right 0", for login 501 on a day below 256
 abbrev pub queryOn : ℕ → List ℕ

@@ -16,7 +16,7 @@ use Rattle.requests.specs.declared.Frame.the-variants.{Record, Cut}
 use Rattle.requests.specs.declared.Answer.{Answer}
 use Rattle.requests.specs.declared.Step.{Step}
 use Rattle.requests.specs.Framing.{isAnnouncement, frameOf}
-use Rattle.requests.specs.Requests.{isNone, cuts, startStep, withSecond, stepStart, stepDeliver, stepQuery, placed, stepOf}
+use Rattle.requests.specs.Requests.{isNone, startStep, withSecond, stepStart, stepDeliver, stepQuery, placed, stepOf}
 use Rattle.requests.specs.Lines.{lineOf}
 use Rattle.requests.proofs.Frames.{frame-fits, second-fits}
 use Rattle.requests.proofs.Writing.{length-decimal, length-word}

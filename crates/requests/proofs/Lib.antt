@@ -2,3 +2,5 @@
 pub mod Frames
 pub mod Writing
 pub mod Extents
+pub mod Following
+pub mod Held

@@ -3,3 +3,4 @@ pub mod Framing
 pub mod Requests
 pub mod Lines
 pub mod Run
+pub mod Claims

@@ -1,9 +1,8 @@
 -- What node-run prints for its whole input.
 use Prim.Native.Nat.{ℕ, zero, suc}
 use mathlib.Core.List.{List, [], _∷_, _++_}
-use mathlib.Core.Bool.{Bool, true, false, cond}
-use lib.Dec.{eqb}
-use lib.ListN.{length, drop}
+use mathlib.Core.Bool.{cond}
+use lib.ListN.{drop}
 use Rattle.node.specs.declared.Node.{Node}
 use Rattle.node.specs.Start.{blankNode}
 use Rattle.requests.specs.declared.Step.{Step}

@@ -1,4 +1,4 @@
-use native.Mathlib.Nat.{lt-of-le-of-lt, le-trans}
+use native.Mathlib.Nat.{lt-of-le-of-lt}
 use Rattle.requests.proofs.Extents.{used-in, line-ends}
 use native.Mathlib.Omega.{arith}
 use denote.Ref.{now}

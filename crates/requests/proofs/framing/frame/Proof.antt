@@ -1,4 +1,3 @@
-use native.Mathlib.Omega.{arith}
 use mathlib.Core.Path.{sym, _∙_}
 use Rattle.requests.proofs.Frames.{record-heads}
 use Rattle.requests.specs.Framing.{frameOf}

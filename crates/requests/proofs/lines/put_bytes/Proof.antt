@@ -3,7 +3,6 @@ use Rattle.requests.proofs.Writing.{Copied, copied-none, copied-one, co
 use Prim.Native.Nat.{_-_}
 use native.Mathlib.Omega.{arith}
 use borrow.Author.Needs.{needs}
-use denote.Ref.{now}
 use lib.ListN.{length}
 use Rattle.requests.proofs.lines.put_bytes.Statement.{statement}
 use Rattle.requests.proofs.lines.put_bytes.Tie as tie

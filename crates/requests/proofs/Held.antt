@@ -1,0 +1,147 @@
+-- What started is a node, and no step loses one.
+use Prim.Native.Nat.{ℕ, _+_, _≤_}
+use native.Mathlib.Omega.{arith}
+use mathlib.Core.Path.{_≡_, refl, sym, _∙_}
+use mathlib.Core.Bool.{true, false, and-eq-true-iff}
+use mathlib.Core.List.{List}
+use lib.Dec.{eqb}
+use lib.ListN.{take, drop}
+use borrow.Author.Tests.{leb-true, ne-eqb}
+use Rattle.lists.proofs.Tests.{cond-cases}
+use Rattle.state.specs.declared.State.{State}
+use Rattle.state.specs.declared.Cycle.{Cycle}
+use Rattle.state.specs.Time.{isBeforeCycle, lastCycle}
+use Rattle.state.specs.WellFormed.{isWellFormed}
+use Rattle.checkpoint.specs.Checkpoint.{decodeCheckpoint, isCheckpoint, readCheckpoint}
+use Rattle.records.specs.declared.Announcement.{Announcement}
+use Rattle.actions.specs.Perform.{perform}
+use Rattle.node.specs.declared.Node.{Node}
+use Rattle.node.specs.declared.StartAnswer.{StartAnswer}
+use Rattle.node.specs.declared.StartAnswer.the-variants as S
+use Rattle.node.specs.declared.DeliverAnswer.{DeliverAnswer}
+use Rattle.node.specs.declared.DeliverAnswer.the-variants as D
+use Rattle.node.specs.declared.QueryAnswer.{QueryAnswer}
+use Rattle.node.specs.declared.QueryAnswer.the-variants as Q
+use Rattle.node.specs.Start.{startOf}
+use Rattle.node.specs.Deliver.{deliverOf}
+use Rattle.node.specs.Query.{queryOf}
+use Rattle.node.specs.Claims.{Delivery, Asking, Starting}
+use Rattle.node.proofs.Start.{start-comes-to}
+use Rattle.node.proofs.Deliver.{deliver-comes-to}
+use Rattle.node.proofs.Query.{query-comes-to}
+use Rattle.requests.specs.declared.Frame.{Frame}
+use Rattle.requests.specs.declared.Frame.the-variants.{Record, Cut}
+use Rattle.requests.specs.declared.Answer.the-variants as Answer
+use Rattle.requests.specs.declared.Step.{Step}
+use Rattle.requests.specs.Framing.{isAnnouncement, frameOf}
+use Rattle.requests.specs.Requests.{isNone, cuts, answers, deliverAnswer, queryAnswer, startStep, afterStart, withSecond, stepStart, stepDeliver, stepQuery, placed, stepOf}
+use Rattle.requests.specs.Claims.{KeepsNode, StartsNode}
+
+-- a well-formed state has a cycle
+cycle-held : (s : State) → isWellFormed s ≡ true → eqb (s .cycle .0) 0 ≡ false
+unfolding isWellFormed
+cycle-held s h =
+    let t = simp and-eq-true-iff at h in
+    let k : 1 ≤ s .cycle .0 = leb-true _ _ (t .0) in
+    ne-eqb (s .cycle .0) 0 (λ e. absurd (omega arith))
+
+decoded-held : (cb : List ℕ) → isCheckpoint cb ≡ true → isWellFormed (decodeCheckpoint cb .state) ≡ true
+unfolding isCheckpoint
+decoded-held cb h = let t = simp and-eq-true-iff at h in t .1 .1
+
+checkpoint-held : (cb : List ℕ) → isCheckpoint cb ≡ true → isWellFormed (readCheckpoint cb .state) ≡ true
+unfolding readCheckpoint
+checkpoint-held cb h = rw h (decoded-held cb h)
+
+performed-held : (n : Node) (a : Announcement) → isNone n ≡ false → eqb (perform (n .state) a .cycle .0) 0 ≡ false
+unfolding perform
+performed-held n a h =
+    cond-cases (λ (c : Cycle). eqb (c .0) 0 ≡ false) (isBeforeCycle (n .state .cycle) lastCycle) (λ _. ne-eqb (n .state .cycle .0 + 1) 0 (λ e. absurd (omega arith))) (λ _. h)
+
+-- the node that each call hands back
+deliver-held : (n : Node) (ab sb : List ℕ) → isNone n ≡ false → isNone (deliverOf n ab sb .node) ≡ false
+deliver-held n ab sb h = go (deliver-comes-to n ab sb)
+  where
+    go : Delivery n ab sb (deliverOf n ab sb) → isNone (deliverOf n ab sb .node) ≡ false
+    go (Delivery.refuses k w e) = rw e h
+    go (Delivery.votes a w q m e) = rw e h
+    go (Delivery.performs a w q e) = rw e (performed-held n a h)
+
+query-held : (n : Node) (qb : List ℕ) → isNone n ≡ false → isNone (queryOf n qb .node) ≡ false
+query-held n qb h = go (query-comes-to n qb)
+  where
+    go : Asking n qb (queryOf n qb) → isNone (queryOf n qb .node) ≡ false
+    go (Asking.refuses k l w e) = rw e h
+    go (Asking.misses k l m w e) = rw e h
+    go (Asking.opens q r w e) = rw e h
+
+refused-not-started : {k : ℕ} → S.Refused k ≡ S.Started → ⊥
+refused-not-started e = let z : _≡_ {A = ℕ} 0 1 = cc in omega arith
+
+start-held : (cb sb : List ℕ) → startOf cb sb .answer ≡ S.Started → isNone (startOf cb sb .node) ≡ false
+start-held cb sb h = go (start-comes-to cb sb)
+  where
+    go : Starting cb sb (startOf cb sb) → isNone (startOf cb sb .node) ≡ false
+    go (Starting.refuses k w e) = absurd (refused-not-started (sym e ∙ h))
+    go (Starting.starts x r o a l e) = rw e (cycle-held (readCheckpoint cb .state) (checkpoint-held cb o))
+
+-- what holds of the node held before and of one that started holds of the node after a step
+module _ (n : Node) (P : Step → Type 0)
+    (cut : P (cuts n))
+    (start : (used : ℕ) (cb sb : List ℕ) → P (afterStart n used (startOf cb sb)))
+    (deliver : (used : ℕ) (ab sb : List ℕ) → P (answers (deliverOf n ab sb .node) (deliverAnswer (deliverOf n ab sb .answer)) used))
+    (query : (used : ℕ) (qb : List ℕ) → P (answers (queryOf n qb .node) (queryAnswer (queryOf n qb .answer)) used)) where
+  second-goes : (kind : ℕ) (f : ℕ → List ℕ → Step) (b : List ℕ) → ((size : ℕ) (v : List ℕ) → P (f size v)) → (x : Frame) → P (withSecond n kind f b x)
+  second-goes kind f b h Cut = cut
+  second-goes kind f b h (Record size k) = cond-cases P (eqb k kind) (λ _. h size (take size b)) (λ _. cut)
+
+  placed-goes : (b : List ℕ) (x : Frame) → P (placed n b x)
+  unfolding stepStart stepDeliver stepQuery
+  placed-goes b Cut = cut
+  placed-goes b (Record size kind) =
+      cond-cases P (eqb kind 19) (λ _. second-goes 16 _ (drop size b) (λ more cb. start (size + more) cb (take size b)) (frameOf (drop size b)))
+      (λ _. cond-cases P (isNone n) (λ _. cut)
+      (λ _. cond-cases P (eqb kind 20) (λ _. query size (take size b))
+      (λ _. cond-cases P (isAnnouncement kind) (λ _. second-goes 18 _ (drop size b) (λ more sb. deliver (size + more) (take size b) sb) (frameOf (drop size b))) (λ _. cut))))
+
+  step-goes : (b : List ℕ) → P (stepOf n b)
+  unfolding stepOf
+  step-goes b = placed-goes b (frameOf b)
+
+pub keeps-node : KeepsNode
+keeps-node n b h =
+    step-goes n (λ s. isNone (s .node) ≡ false) h
+    (λ used cb sb. go used cb sb (startOf cb sb .answer) refl)
+    (λ used ab sb. deliver-held n ab sb h)
+    (λ used qb. query-held n qb h)
+    b
+  where
+    go : (used : ℕ) (cb sb : List ℕ) (a : StartAnswer) → startOf cb sb .answer ≡ a → isNone (startStep n used (startOf cb sb .node) a .node) ≡ false
+    go used cb sb S.Started e = start-held cb sb e
+    go used cb sb (S.Refused k) e = h
+
+pub starts-node : StartsNode
+starts-node n b =
+    step-goes n (λ s. s .answer ≡ Answer.Started → isNone (s .node) ≡ false)
+    (other n 1)
+    (λ used cb sb. started used cb sb (startOf cb sb .answer) refl)
+    (λ used ab sb. delivered (deliverOf n ab sb .node) used (deliverOf n ab sb .answer))
+    (λ used qb. asked (queryOf n qb .node) used (queryOf n qb .answer))
+    b
+  where
+    other : (m : Node) (k : ℕ) → Answer.No k ≡ Answer.Started → isNone m ≡ false
+    other m k e = absurd (let z : _≡_ {A = ℕ} 0 1 = cc in omega arith)
+
+    started : (used : ℕ) (cb sb : List ℕ) (a : StartAnswer) → startOf cb sb .answer ≡ a
+        → let s = startStep n used (startOf cb sb .node) a in s .answer ≡ Answer.Started → isNone (s .node) ≡ false
+    started used cb sb S.Started e f = start-held cb sb e
+    started used cb sb (S.Refused k) e f = other n k f
+
+    delivered : (m : Node) (used : ℕ) (a : DeliverAnswer) → let s = answers m (deliverAnswer a) used in s .answer ≡ Answer.Started → isNone (s .node) ≡ false
+    delivered m used D.Done e = absurd (let z : _≡_ {A = ℕ} 0 1 = cc in omega arith)
+    delivered m used D.Voted e = absurd (let z : _≡_ {A = ℕ} 0 1 = cc in omega arith)
+    delivered m used (D.Refused k) e = other m k e
+
+    asked : (m : Node) (used : ℕ) (a : QueryAnswer) → let s = answers m (queryAnswer a) used in s .answer ≡ Answer.Started → isNone (s .node) ≡ false
+    asked m used Q.Open e = absurd (let z : _≡_ {A = ℕ} 0 1 = cc in omega arith)
+    asked m used (Q.Refused k) e = other m k e

@@ -1,6 +1,7 @@
 // The nine actions: each from a state to a state.
 ghost use mathlib.Core.Path.{_≡_};
 ghost use mathlib.Core.Bool.{cond};
+ghost use Rattle.records.specs.declared.Action.the-variants as Action;
 ghost use Rattle.actions.specs.Perform.{restand, relive, useProposal, act, perform};
 ghost use Rattle.state.specs.Update.{withSeats, withProposals, withLogins, withMinima};
 ghost use Rattle.state.specs.Seats.{certified, present};
@@ -95,53 +96,93 @@ fn use_proposal(s: State, kind: u16, arguments: u64, d: Day) -> State
     with_proposals(s, drop_proposal(rows, used.cycle))
 }
 
+fn propose(s: State, d: Day, kind: u16, arguments: u64) -> State
+    ensures { λ r. ⌜ r ≡ act s d (Action.Propose kind arguments) ⌝ }
+{
+    let rows = s.proposals;
+    let cycle = s.cycle;
+    let row = Proposal {
+        cycle: cycle,
+        day: d,
+        kind: kind,
+        arguments: arguments,
+    };
+    with_proposals(s, add_proposal(rows, row))
+}
+
+fn cancel(s: State, d: Day, cycle: Cycle) -> State
+    ensures { λ r. ⌜ r ≡ act s d (Action.Cancel cycle) ⌝ }
+{
+    let rows = s.proposals;
+    with_proposals(s, drop_proposal(rows, cycle))
+}
+
+fn presents(s: State, d: Day, seat: u8, flag: bool) -> State
+    ensures { λ r. ⌜ r ≡ act s d (Action.Presents seat flag) ⌝ }
+{
+    restand(s, seat, given_standing(flag))
+}
+
+fn certify(s: State, d: Day, seat: u8, life: u32) -> State
+    ensures { λ r. ⌜ r ≡ act s d (Action.Certify seat life) ⌝ }
+{
+    let seats = s.seats;
+    let next = with_seats(s, set_seat(seats, seat, CERTIFIED, life));
+    use_proposal(next, 4, certify_arguments(seat, life), d)
+}
+
+fn minima(s: State, d: Day, margin: u8, least: u8, silence: u16) -> State
+    ensures { λ r. ⌜ r ≡ act s d (Action.Minima margin least silence) ⌝ }
+{
+    let next = with_minima(s, margin, least, silence);
+    use_proposal(next, 5, minima_arguments(margin, least, silence), d)
+}
+
+fn remove(s: State, d: Day, seat: u8) -> State
+    ensures { λ r. ⌜ r ≡ act s d (Action.Remove seat) ⌝ }
+{
+    let next = restand(s, seat, RETIRED);
+    use_proposal(next, 6, remove_arguments(seat), d)
+}
+
+fn rejoin(s: State, d: Day, seat: u8, life: u32) -> State
+    ensures { λ r. ⌜ r ≡ act s d (Action.Rejoin seat life) ⌝ }
+{
+    relive(s, seat, life)
+}
+
+fn grant(s: State, d: Day, row: Login) -> State
+    ensures { λ r. ⌜ r ≡ act s d (Action.Grant row) ⌝ }
+{
+    let rows = s.logins;
+    with_logins(s, grant_login(rows, row))
+}
+
+fn end(s: State, d: Day, login: u32) -> State
+    ensures { λ r. ⌜ r ≡ act s d (Action.End login) ⌝ }
+{
+    let rows = s.logins;
+    with_logins(s, end_login(rows, login))
+}
+
 // What an action, announced on day d, does to the tables and the minima.
 pub fn act(s: State, d: Day, action: Action) -> State
     ensures { λ r. ⌜ r ≡ act s d action ⌝ }
 {
     match action {
-        Action::Propose { kind, arguments } => {
-            let rows = s.proposals;
-            let cycle = s.cycle;
-            let row = Proposal {
-                cycle: cycle,
-                day: d,
-                kind: kind,
-                arguments: arguments,
-            };
-            with_proposals(s, add_proposal(rows, row))
-        }
-        Action::Cancel { cycle } => {
-            let rows = s.proposals;
-            with_proposals(s, drop_proposal(rows, cycle))
-        }
-        Action::Presents { seat, flag } => restand(s, seat, given_standing(flag)),
-        Action::Certify { seat, life } => {
-            let seats = s.seats;
-            let next = with_seats(s, set_seat(seats, seat, CERTIFIED, life));
-            use_proposal(next, 4, certify_arguments(seat, life), d)
-        }
+        Action::Propose { kind, arguments } => propose(s, d, kind, arguments),
+        Action::Cancel { cycle } => cancel(s, d, cycle),
+        Action::Presents { seat, flag } => presents(s, d, seat, flag),
+        Action::Certify { seat, life } => certify(s, d, seat, life),
         Action::Minima {
             margin,
             least,
             silence,
-        } => {
-            let next = with_minima(s, margin, least, silence);
-            use_proposal(next, 5, minima_arguments(margin, least, silence), d)
-        }
-        Action::Remove { seat } => {
-            let next = restand(s, seat, RETIRED);
-            use_proposal(next, 6, remove_arguments(seat), d)
-        }
-        Action::Rejoin { seat, life } => relive(s, seat, life),
-        Action::Grant { row } => {
-            let rows = s.logins;
-            with_logins(s, grant_login(rows, row))
-        }
-        Action::End { login } => {
-            let rows = s.logins;
-            with_logins(s, end_login(rows, login))
-        }
+        } => { minima(s, d, margin, least, silence) }
+        Action::Remove { seat } => remove(s, d, seat),
+        Action::Rejoin { seat, life } => rejoin(s, d, seat, life),
+        Action::Grant { row } => grant(s, d, row),
+        Action::End { login } => end(s, d, login),
     }
 }
 

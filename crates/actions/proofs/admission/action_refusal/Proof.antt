@@ -57,31 +57,31 @@ end-refusal-requires : tie.Need-end-refusal-requires
 end-refusal-requires c κs = search needs
 
 returns : tie.Need-returns
-returns c = rw (c .propose-refusal .ensures, c .before .before .action .given .1)
+returns c = rw (c .before .before .action .given .1) (c .propose-refusal .ensures)
 
 returns-2 : tie.Need-returns-2
-returns-2 c = rw (c .cancel-refusal .ensures, c .before .before .action2 .given .1)
+returns-2 c = rw (c .before .before .action2 .given .1) (c .cancel-refusal .ensures)
 
 returns-3 : tie.Need-returns-3
-returns-3 c = rw (c .presents-refusal .ensures, c .before .before .action3 .given .1)
+returns-3 c = rw (c .before .before .action3 .given .1) (c .presents-refusal .ensures)
 
 returns-4 : tie.Need-returns-4
-returns-4 c = rw (c .certify-refusal .ensures, c .before .before .action4 .given .1)
+returns-4 c = rw (c .before .before .action4 .given .1) (c .certify-refusal .ensures)
 
 returns-5 : tie.Need-returns-5
-returns-5 c = rw (c .minima-refusal .ensures, c .before .before .action5 .given .1)
+returns-5 c = rw (c .before .before .action5 .given .1) (c .minima-refusal .ensures)
 
 returns-6 : tie.Need-returns-6
-returns-6 c = rw (c .remove-refusal .ensures, c .before .before .action6 .given .1)
+returns-6 c = rw (c .before .before .action6 .given .1) (c .remove-refusal .ensures)
 
 returns-7 : tie.Need-returns-7
-returns-7 c = rw (c .rejoin-refusal .ensures, c .before .before .action7 .given .1)
+returns-7 c = rw (c .before .before .action7 .given .1) (c .rejoin-refusal .ensures)
 
 returns-8 : tie.Need-returns-8
-returns-8 c = rw (c .grant-refusal .ensures, c .before .before .action8 .given .1)
+returns-8 c = rw (c .before .before .action8 .given .1) (c .grant-refusal .ensures)
 
 returns-9 : tie.Need-returns-9
-returns-9 c = rw (c .end-refusal .ensures, c .before .before .action9 .given .1)
+returns-9 c = rw (c .before .before .action9 .given .1) (c .end-refusal .ensures)
 
 pub action-refusal-spec : {M : Type 1} → statement M
 action-refusal-spec =

@@ -26,7 +26,7 @@ or-else-requires-2 c κs = search needs
 
 returns : tie.Need-returns
 unfolding actionRefusal
-returns c = rw (c .or-else2 .ensures, c .before .or-else .ensures, c .before .before .notice-refusal .ensures, c .before .before .before .certify-arguments .ensures, c .before .before .before .before .refuse-if .ensures, c .before .before .before .before .before .before .trustee-refusal .ensures, c .before .before .before .before .before .before .before .seat-at .ensures)
+returns c = rw (← c .before .before .before .before .before .before .before .seat-at .ensures, ← c .before .before .before .before .before .before .trustee-refusal .ensures, ← c .before .before .before .before .refuse-if .ensures, ← c .before .before .before .certify-arguments .ensures, ← c .before .before .notice-refusal .ensures, ← c .before .or-else .ensures) (c .or-else2 .ensures)
 
 pub certify-refusal-spec : {M : Type 1} → statement M
 certify-refusal-spec =

@@ -29,7 +29,7 @@ or-else-requires-2 c κs = search needs
 
 returns : tie.Need-returns
 unfolding actionRefusal
-returns c = rw (c .or-else2 .ensures, c .before .or-else .ensures, c .before .before .refuse-if2 .ensures, c .before .before .before .is-before .ensures, c .before .before .before .before .refuse-if .ensures, c .before .before .before .before .before .is-listed .ensures, c .before .before .before .before .before .before .logins-full .ensures, c .before .before .before .before .before .before .before .trustee-refusal .ensures)
+returns c = rw (← c .before .before .before .before .before .before .before .trustee-refusal .ensures, ← c .before .before .before .before .before .before .logins-full .ensures, ← c .before .before .before .before .before .is-listed .ensures, ← c .before .before .before .before .refuse-if .ensures, ← c .before .before .before .is-before .ensures, ← c .before .before .refuse-if2 .ensures, ← c .before .or-else .ensures) (c .or-else2 .ensures)
 
 pub grant-refusal-spec : {M : Type 1} → statement M
 grant-refusal-spec =

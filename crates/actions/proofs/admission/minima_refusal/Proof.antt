@@ -26,7 +26,7 @@ or-else-requires-2 c κs = search needs
 
 returns : tie.Need-returns
 unfolding actionRefusal
-returns c = rw (c .or-else2 .ensures, c .before .or-else .ensures, c .before .before .quorum-refusal .ensures, c .before .before .before .present-seats .ensures .0, c .before .before .before .before .notice-refusal .ensures, c .before .before .before .before .before .minima-arguments .ensures, c .before .before .before .before .before .before .trustee-refusal .ensures)
+returns c = rw (← c .before .before .before .before .before .before .trustee-refusal .ensures, ← c .before .before .before .before .before .minima-arguments .ensures, ← c .before .before .before .before .notice-refusal .ensures, ← c .before .before .before .present-seats .ensures .0, ← c .before .before .quorum-refusal .ensures, ← c .before .or-else .ensures) (c .or-else2 .ensures)
 
 pub minima-refusal-spec : {M : Type 1} → statement M
 minima-refusal-spec =

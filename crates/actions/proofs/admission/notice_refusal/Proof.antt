@@ -14,7 +14,7 @@ refuse-if-requires c κs = search needs
 
 returns : tie.Need-returns
 unfolding noticeRefusal
-returns c = rw (c .refuse-if .ensures, c .before .is-used .ensures, c .before .before .mature-proposal .ensures)
+returns c = rw (← c .before .before .mature-proposal .ensures, ← c .before .is-used .ensures) (c .refuse-if .ensures)
 
 pub notice-refusal-spec : {M : Type 1} → statement M
 notice-refusal-spec =

@@ -32,7 +32,7 @@ or-else-requires-2 c κs = search needs
 
 returns : tie.Need-returns
 unfolding actionRefusal
-returns c = rw (c .or-else2 .ensures, c .before .or-else .ensures, c .before .before .quorum-refusal .ensures, c .before .before .before .refuse-if .ensures, c .before .before .before .before .before .fit-standing .ensures, c .before .before .before .before .before .before .trustee-refusal .ensures, c .before .before .before .before .before .before .before .present-after .ensures, c .before .before .before .before .before .before .before .before .present-seats .ensures .0, c .before .before .before .before .before .before .before .before .before .seat-at .ensures)
+returns c = rw (← c .before .before .before .before .before .before .before .before .before .seat-at .ensures, ← c .before .before .before .before .before .before .before .before .present-seats .ensures .0, ← c .before .before .before .before .before .before .before .present-after .ensures, ← c .before .before .before .before .before .before .trustee-refusal .ensures, ← c .before .before .before .before .before .fit-standing .ensures, ← c .before .before .before .refuse-if .ensures, ← c .before .before .quorum-refusal .ensures, ← c .before .or-else .ensures) (c .or-else2 .ensures)
 
 pub presents-refusal-spec : {M : Type 1} → statement M
 presents-refusal-spec =

@@ -17,7 +17,7 @@ or-else-requires c κs = search needs
 
 returns : tie.Need-returns
 unfolding actionRefusal
-returns c = rw (c .or-else .ensures, c .before .refuse-if .ensures, c .before .before .proposals-full .ensures, c .before .before .before .trustee-refusal .ensures)
+returns c = rw (← c .before .before .before .trustee-refusal .ensures, ← c .before .before .proposals-full .ensures, ← c .before .refuse-if .ensures) (c .or-else .ensures)
 
 pub propose-refusal-spec : {M : Type 1} → statement M
 propose-refusal-spec =

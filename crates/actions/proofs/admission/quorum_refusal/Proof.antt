@@ -11,7 +11,7 @@ refuse-if-requires c κs = search needs
 
 returns : tie.Need-returns
 unfolding quorumRefusal
-returns c = rw (c .refuse-if .ensures, c .before .quorum .ensures)
+returns c = rw (← c .before .quorum .ensures) (c .refuse-if .ensures)
 
 pub quorum-refusal-spec : {M : Type 1} → statement M
 quorum-refusal-spec = tie.close (tie.spec quorum-requires refuse-if-requires returns)

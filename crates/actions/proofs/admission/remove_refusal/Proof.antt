@@ -41,7 +41,7 @@ or-else-requires-3 c κs = search needs
 
 returns : tie.Need-returns
 unfolding actionRefusal
-returns c = rw (c .or-else3 .ensures, c .before .or-else2 .ensures, c .before .before .or-else .ensures, c .before .before .before .quorum-refusal .ensures, c .before .before .before .before .notice-refusal .ensures, c .before .before .before .before .before .remove-arguments .ensures, c .before .before .before .before .before .before .refuse-if .ensures, c .before .before .before .before .before .before .before .is-active .ensures, c .before .before .before .before .before .before .before .before .trustee-refusal .ensures, c .before .before .before .before .before .before .before .before .before .present-without .ensures, c .before .before .before .before .before .before .before .before .before .before .present-seats .ensures .0, c .before .before .before .before .before .before .before .before .before .before .before .seat-at .ensures)
+returns c = rw (← c .before .before .before .before .before .before .before .before .before .before .before .seat-at .ensures, ← c .before .before .before .before .before .before .before .before .before .before .present-seats .ensures .0, ← c .before .before .before .before .before .before .before .before .before .present-without .ensures, ← c .before .before .before .before .before .before .before .before .trustee-refusal .ensures, ← c .before .before .before .before .before .before .before .is-active .ensures, ← c .before .before .before .before .before .before .refuse-if .ensures, ← c .before .before .before .before .before .remove-arguments .ensures, ← c .before .before .before .before .notice-refusal .ensures, ← c .before .before .before .quorum-refusal .ensures, ← c .before .before .or-else .ensures, ← c .before .or-else2 .ensures) (c .or-else3 .ensures)
 
 pub remove-refusal-spec : {M : Type 1} → statement M
 remove-refusal-spec =

@@ -38,7 +38,7 @@ or-else-requires-3 c κs = search needs
 
 returns : tie.Need-returns
 unfolding timeRefusal
-returns c = rw (c .or-else3 .ensures, c .before .or-else2 .ensures, c .before .before .or-else .ensures, c .before .before .before .refuse-if4 .ensures, c .before .before .before .before .is-before3 .ensures, c .before .before .before .before .before .refuse-if3 .ensures, c .before .before .before .before .before .before .is-same .ensures, c .before .before .before .before .before .before .before .refuse-if2 .ensures, c .before .before .before .before .before .before .before .before .is-before2 .ensures, c .before .before .before .before .before .before .before .before .before .refuse-if .ensures, c .before .before .before .before .before .before .before .before .before .before .is-before .ensures)
+returns c = rw (← c .before .before .before .before .before .before .before .before .before .before .is-before .ensures, ← c .before .before .before .before .before .before .before .before .before .refuse-if .ensures, ← c .before .before .before .before .before .before .before .before .is-before2 .ensures, ← c .before .before .before .before .before .before .before .refuse-if2 .ensures, ← c .before .before .before .before .before .before .is-same .ensures, ← c .before .before .before .before .before .refuse-if3 .ensures, ← c .before .before .before .before .is-before3 .ensures, ← c .before .before .before .refuse-if4 .ensures, ← c .before .before .or-else .ensures, ← c .before .or-else2 .ensures) (c .or-else3 .ensures)
 
 pub time-refusal-spec : {M : Type 1} → statement M
 time-refusal-spec =

@@ -11,7 +11,7 @@ refuse-if-requires c κs = search needs
 
 returns : tie.Need-returns
 unfolding trusteeRefusal
-returns c = rw (c .refuse-if .ensures, c .before .is-majority .ensures)
+returns c = rw (← c .before .is-majority .ensures) (c .refuse-if .ensures)
 
 pub trustee-refusal-spec : {M : Type 1} → statement M
 trustee-refusal-spec = tie.close (tie.spec is-majority-requires refuse-if-requires returns)

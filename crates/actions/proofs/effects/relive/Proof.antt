@@ -14,7 +14,7 @@ with-seats-requires c κs = search needs
 
 returns : tie.Need-returns
 unfolding relive
-returns c = rw (c .with-seats .ensures, c .before .set-seat .ensures, c .before .before .seat-at .ensures)
+returns c = rw (← c .before .before .seat-at .ensures, ← c .before .set-seat .ensures) (c .with-seats .ensures)
 
 pub relive-spec : {M : Type 1} → statement M
 relive-spec = tie.close (tie.spec seat-at-requires set-seat-requires with-seats-requires returns)

@@ -14,7 +14,7 @@ with-proposals-requires c κs = search needs
 
 returns : tie.Need-returns
 unfolding useProposal
-returns c = rw (c .with-proposals .ensures, c .before .drop-proposal .ensures, c .before .before .mature-proposal .ensures)
+returns c = rw (← c .before .before .mature-proposal .ensures, ← c .before .drop-proposal .ensures) (c .with-proposals .ensures)
 
 pub use-proposal-spec : {M : Type 1} → statement M
 use-proposal-spec =

@@ -1,6 +1,4 @@
-use mathlib.Core.Path.{sym, ap}
 use denote.Ref.{now}
-use Rattle.state.specs.declared.State.{State}
 use Rattle.checkpoint.proofs.Fields.{decoded-at}
 use borrow.Author.Needs.{needs}
 use Rattle.checkpoint.proofs.read.state_in.Statement.{statement}
@@ -40,8 +38,8 @@ returns : tie.Need-returns
 returns c =
     let n = c .before .before .before .before .before in
     let l = n .before .before in
-    rw (c .u16-at .ensures, n .u32-at2 .ensures, n .before .u32-at .ensures, l .logins-at .ensures, l .before .proposals-at .ensures, l .before .before .seats-at .ensures)
-    (sym (ap {B = State} (λ k. k .state) (decoded-at (now (l .before .before .before .before .args .b)))))
+    let s = l .before .before in
+    rw (decoded-at (now (s .before .before .args .b)), ← s .seats-at .ensures, ← l .before .proposals-at .ensures, ← l .logins-at .ensures, ← n .before .u32-at .ensures, ← n .u32-at2 .ensures, ← c .u16-at .ensures)
 
 pub state-in-spec : {M : Type 1} → statement M
 state-in-spec =

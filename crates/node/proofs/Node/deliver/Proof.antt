@@ -20,7 +20,7 @@ refuse-delivery-requires c κs = search needs
 
 returns : tie.Need-returns
 unfolding deliverOf
-returns c = rw (c .refuse-delivery .ensures, ← c .before .before .before .read-announcement .ensures, c .before .enum-told .given .1)
+returns c = rw (← c .before .before .before .read-announcement .ensures, c .before .enum-told .given .1) (c .refuse-delivery .ensures)
 
 is-sheet-requires : tie.Need-is-sheet-requires
 is-sheet-requires c κs = search needs
@@ -30,14 +30,14 @@ deliver-read-requires c κs = (announcement-size (now (c .before .before .before
 
 returns-2 : tie.Need-returns-2
 unfolding deliverOf
-returns-2 c = rw (c .deliver-read .ensures, ← c .before .before .before .before .before .before .read-announcement .ensures, c .before .before .before .before .read .given .1, sym (c .before .before .is-sheet .ensures) ∙ c .before .if1 .taken)
+returns-2 c = rw (← c .before .before .before .before .before .before .read-announcement .ensures, c .before .before .before .before .read .given .1, sym (c .before .before .is-sheet .ensures) ∙ c .before .if1 .taken) (c .deliver-read .ensures)
 
 refuse-delivery-requires-2 : tie.Need-refuse-delivery-requires-2
 refuse-delivery-requires-2 c κs = search needs
 
 returns-3 : tie.Need-returns-3
 unfolding deliverOf
-returns-3 c = rw (c .refuse-delivery2 .ensures, ← c .before .before .before .before .before .before .read-announcement .ensures, c .before .before .before .before .read .given .1, sym (c .before .before .is-sheet .ensures) ∙ c .before .if1 .left)
+returns-3 c = rw (← c .before .before .before .before .before .before .read-announcement .ensures, c .before .before .before .before .read .given .1, sym (c .before .before .is-sheet .ensures) ∙ c .before .if1 .left) (c .refuse-delivery2 .ensures)
 
 pub deliver-spec : {M : Type 1} → statement M
 deliver-spec =

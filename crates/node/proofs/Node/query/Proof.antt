@@ -21,7 +21,7 @@ reply-to-query-requires c κs = search needs
 
 returns : tie.Need-returns
 unfolding queryOf
-returns c = rw (c .reply-to-query .ensures, ← c .before .before .before .read-query .ensures, c .before .enum-told .given .1)
+returns c = rw (← c .before .before .before .read-query .ensures, c .before .enum-told .given .1) (c .reply-to-query .ensures)
 
 query-refusal-requires : tie.Need-query-refusal-requires
 query-refusal-requires c κs = search needs
@@ -36,7 +36,7 @@ reply-to-query-requires-2 c κs =
 
 returns-2 : tie.Need-returns-2
 unfolding queryOf
-returns-2 c = rw (c .reply-to-query2 .ensures, c .before .query-refusal .ensures, ← c .before .before .before .before .before .read-query .ensures, c .before .before .before .read .given .1)
+returns-2 c = rw (← c .before .before .before .before .before .read-query .ensures, c .before .before .before .read .given .1, ← c .before .query-refusal .ensures) (c .reply-to-query2 .ensures)
 
 pub query-spec : {M : Type 1} → statement M
 query-spec =

@@ -17,7 +17,7 @@ refuse-start-requires c κs = search needs
 
 returns : tie.Need-returns
 unfolding startOf
-returns c = rw (c .refuse-start .ensures, ← c .before .before .before .read-start .ensures, c .before .enum-told .given .1)
+returns c = rw (← c .before .before .before .read-start .ensures, c .before .enum-told .given .1) (c .refuse-start .ensures)
 
 read-checkpoint-requires : tie.Need-read-checkpoint-requires
 read-checkpoint-requires c κs = search needs
@@ -27,14 +27,14 @@ start-from-requires c κs = search needs
 
 returns-2 : tie.Need-returns-2
 unfolding startOf
-returns-2 c = rw (c .start-from .ensures, ← c .before .before .before .before .before .before .before .read-start .ensures, c .before .before .before .before .before .read .given .1, ← c .before .before .before .read-checkpoint .ensures, c .before .before .if1 .taken)
+returns-2 c = rw (← c .before .before .before .before .before .before .before .read-start .ensures, c .before .before .before .before .before .read .given .1, ← c .before .before .before .read-checkpoint .ensures, c .before .before .if1 .taken) (c .start-from .ensures)
 
 refuse-start-requires-2 : tie.Need-refuse-start-requires-2
 refuse-start-requires-2 c κs = search needs
 
 returns-3 : tie.Need-returns-3
 unfolding startOf
-returns-3 c = rw (c .refuse-start2 .ensures, ← c .before .before .before .before .before .before .read-start .ensures, c .before .before .before .before .read .given .1, ← c .before .before .read-checkpoint .ensures, c .before .if1 .left)
+returns-3 c = rw (← c .before .before .before .before .before .before .read-start .ensures, c .before .before .before .before .read .given .1, ← c .before .before .read-checkpoint .ensures, c .before .if1 .left) (c .refuse-start2 .ensures)
 
 pub start-spec : {M : Type 1} → statement M
 start-spec =

@@ -12,7 +12,7 @@ refuse-start-requires c κs = search needs
 
 returns : tie.Need-returns
 unfolding startRead
-returns c = rw (c .refuse-start .ensures, ← c .before .before .start-refusal .ensures, ne-eqb (c .before .before .start-refusal .result) 0 (c .before .if1 .taken))
+returns c = rw (← c .before .before .start-refusal .ensures, ne-eqb (c .before .before .start-refusal .result) 0 (c .before .if1 .taken)) (c .refuse-start .ensures)
 
 own-afresh-requires : tie.Need-own-afresh-requires
 own-afresh-requires c κs = search needs

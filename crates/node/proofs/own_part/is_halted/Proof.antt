@@ -6,7 +6,7 @@ own-seat-requires : tie.Need-own-seat-requires
 own-seat-requires c κs = search needs
 
 returns : tie.Need-returns
-returns c = cc
+returns c = rw (c .before .own-seat .ensures)
 
 pub is-halted-spec : {M : Type 1} → statement M
 is-halted-spec = tie.close (tie.spec own-seat-requires returns)

@@ -6,7 +6,7 @@ is-same-requires : tie.Need-is-same-requires
 is-same-requires c κs = search needs
 
 returns : tie.Need-returns
-returns c = cc
+returns c = rw (c .before .is-same .ensures)
 
 pub voted-otherwise-spec : {M : Type 1} → statement M
 voted-otherwise-spec = tie.close (tie.spec is-same-requires returns)

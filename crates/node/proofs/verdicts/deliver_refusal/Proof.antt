@@ -38,7 +38,7 @@ or-else-requires-2 c κs = search needs
 
 returns : tie.Need-returns
 unfolding deliverRefusal
-returns c = rw (c .or-else2 .ensures, c .before .or-else .ensures, c .before .before .action-refusal .ensures, c .before .before .before .before .before .time-refusal .ensures, c .before .before .before .before .before .before .refuse-if .ensures, c .before .before .before .before .before .before .before .is-halted .ensures)
+returns c = rw (← c .before .before .before .before .before .before .before .is-halted .ensures, ← c .before .before .before .before .before .before .refuse-if .ensures, ← c .before .before .before .before .before .time-refusal .ensures, ← c .before .before .action-refusal .ensures, ← c .before .or-else .ensures) (c .or-else2 .ensures)
 
 pub deliver-refusal-spec : {M : Type 1} → statement M
 deliver-refusal-spec =

@@ -62,7 +62,7 @@ or-else-requires-5 c κs = search needs
 
 returns : tie.Need-returns
 unfolding queryRefusal
-returns c = rw (c .or-else5 .ensures, c .before .or-else4 .ensures, c .before .before .or-else3 .ensures, c .before .before .before .or-else2 .ensures, c .before .before .before .before .or-else .ensures, c .before .before .before .before .before .refuse-if6 .ensures, c .before .before .before .before .before .before .holds-right .ensures, c .before .before .before .before .before .before .before .refuse-if5 .ensures, c .before .before .before .before .before .before .before .before .is-before .ensures, c .before .before .before .before .before .before .before .before .before .refuse-if4 .ensures, c .before .before .before .before .before .before .before .before .before .before .is-used .ensures, c .before .before .before .before .before .before .before .before .before .before .before .refuse-if3 .ensures, c .before .before .before .before .before .before .before .before .before .before .before .before .since .ensures, c .before .before .before .before .before .before .before .before .before .before .before .before .before .before .refuse-if2 .ensures, c .before .before .before .before .before .before .before .before .before .before .before .before .before .before .before .before .refuse-if .ensures, c .before .before .before .before .before .before .before .before .before .before .before .before .before .before .before .before .before .is-halted .ensures, c .before .before .before .before .before .before .before .before .before .before .before .before .before .before .before .before .before .before .before .find-login .ensures, c .before .before .before .before .before .before .before .before .before .before .before .before .before .before .before .before .before .before .before .before .later .ensures)
+returns c = rw (← c .before .before .before .before .before .before .before .before .before .before .before .before .before .before .before .before .before .before .before .before .later .ensures, ← c .before .before .before .before .before .before .before .before .before .before .before .before .before .before .before .before .before .before .before .find-login .ensures, ← c .before .before .before .before .before .before .before .before .before .before .before .before .before .before .before .before .before .is-halted .ensures, ← c .before .before .before .before .before .before .before .before .before .before .before .before .before .before .before .before .refuse-if .ensures, ← c .before .before .before .before .before .before .before .before .before .before .before .before .before .before .refuse-if2 .ensures, ← c .before .before .before .before .before .before .before .before .before .before .before .before .since .ensures, ← c .before .before .before .before .before .before .before .before .before .before .before .refuse-if3 .ensures, ← c .before .before .before .before .before .before .before .before .before .before .is-used .ensures, ← c .before .before .before .before .before .before .before .before .before .refuse-if4 .ensures, ← c .before .before .before .before .before .before .before .before .is-before .ensures, ← c .before .before .before .before .before .before .before .refuse-if5 .ensures, ← c .before .before .before .before .before .before .holds-right .ensures, ← c .before .before .before .before .before .refuse-if6 .ensures, ← c .before .before .before .before .or-else .ensures, ← c .before .before .before .or-else2 .ensures, ← c .before .before .or-else3 .ensures, ← c .before .or-else4 .ensures) (c .or-else5 .ensures)
 
 pub query-refusal-spec : {M : Type 1} → statement M
 query-refusal-spec =

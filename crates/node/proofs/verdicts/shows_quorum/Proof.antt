@@ -14,7 +14,7 @@ cast-result c = search needs
 
 returns : tie.Need-returns
 unfolding showsQuorum
-returns c = cc
+returns c = rw (c .quorum-of .ensures, c .before .counted-seats .ensures)
 
 pub shows-quorum-spec : {M : Type 1} → statement M
 shows-quorum-spec =

@@ -20,7 +20,7 @@ or-else-requires c κs = search needs
 
 returns : tie.Need-returns
 unfolding startRefusal
-returns c = rw (c .or-else .ensures, c .before .refuse-if2 .ensures, c .before .before .before .before .refuse-if .ensures, c .before .before .before .before .before .is-active .ensures, c .before .before .before .before .before .before .seat-at .ensures)
+returns c = rw (← c .before .before .before .before .before .before .seat-at .ensures, ← c .before .before .before .before .before .is-active .ensures, ← c .before .before .before .before .refuse-if .ensures, ← c .before .refuse-if2 .ensures) (c .or-else .ensures)
 
 pub start-refusal-spec : {M : Type 1} → statement M
 start-refusal-spec =

@@ -20,7 +20,7 @@ or-else-requires c κs = search needs
 
 returns : tie.Need-returns
 unfolding voteRefusal
-returns c = rw (c .or-else .ensures, c .before .refuse-if2 .ensures, c .before .before .voted-otherwise .ensures, c .before .before .before .refuse-if .ensures, c .before .before .before .before .can-vote .ensures)
+returns c = rw (← c .before .before .before .before .can-vote .ensures, ← c .before .before .before .refuse-if .ensures, ← c .before .before .voted-otherwise .ensures, ← c .before .refuse-if2 .ensures) (c .or-else .ensures)
 
 pub vote-refusal-spec : {M : Type 1} → statement M
 vote-refusal-spec =

@@ -17,7 +17,7 @@ announcing-requires c κs = search needs
 
 returns : tie.Need-returns
 unfolding readCertify
-returns c = cc
+returns c = rw (← c .before .before .u32-at .ensures, ← c .before .is-zero-from .ensures) (c .announcing .ensures)
 
 pub read-certify-spec : {M : Type 1} → statement M
 read-certify-spec =

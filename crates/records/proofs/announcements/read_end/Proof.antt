@@ -14,7 +14,7 @@ announcing-requires c κs = search needs
 
 returns : tie.Need-returns
 unfolding readEnd
-returns c = cc
+returns c = rw (← c .before .before .u32-at .ensures, ← c .before .is-zero-from .ensures) (c .announcing .ensures)
 
 pub read-end-spec : {M : Type 1} → statement M
 read-end-spec =

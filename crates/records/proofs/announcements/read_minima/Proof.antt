@@ -20,7 +20,7 @@ announcing-requires c κs = search needs
 
 returns : tie.Need-returns
 unfolding readMinima
-returns c = cc
+returns c = rw (← c .before .before .u16-at .ensures, ← c .before .is-zero-from .ensures) (c .announcing .ensures)
 
 pub read-minima-spec : {M : Type 1} → statement M
 read-minima-spec =

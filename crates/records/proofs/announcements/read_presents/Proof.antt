@@ -17,7 +17,7 @@ announcing-requires c κs = search needs
 
 returns : tie.Need-returns
 unfolding readPresents
-returns c = cc
+returns c = rw (← c .before .is-zero-from .ensures) (c .announcing .ensures)
 
 pub read-presents-spec : {M : Type 1} → statement M
 read-presents-spec =

@@ -20,7 +20,7 @@ announcing-requires c κs = search needs
 
 returns : tie.Need-returns
 unfolding readPropose
-returns c = cc
+returns c = rw (← c .before .before .before .before .u16-at .ensures, ← c .before .before .before .u64-at .ensures, ← c .before .before .is-zero-from .ensures, ← c .before .is-subject .ensures) (c .announcing .ensures)
 
 pub read-propose-spec : {M : Type 1} → statement M
 read-propose-spec =

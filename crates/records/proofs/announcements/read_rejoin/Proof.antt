@@ -17,7 +17,7 @@ announcing-requires c κs = search needs
 
 returns : tie.Need-returns
 unfolding readRejoin
-returns c = cc
+returns c = rw (← c .before .before .u32-at .ensures, ← c .before .is-zero-from .ensures) (c .announcing .ensures)
 
 pub read-rejoin-spec : {M : Type 1} → statement M
 read-rejoin-spec =

@@ -14,7 +14,7 @@ announcing-requires c κs = search needs
 
 returns : tie.Need-returns
 unfolding readRemove
-returns c = cc
+returns c = rw (← c .before .is-zero-from .ensures) (c .announcing .ensures)
 
 pub read-remove-spec : {M : Type 1} → statement M
 read-remove-spec =

@@ -31,12 +31,12 @@ returns c =
     let b = c .before .before in
     let d = b .before .before .before .before in
     rw (
-      c .are-well-formed-logins .ensures,
-      c .before .are-well-formed-proposals .ensures,
-      b .quorum .ensures,
-      b .before .are-well-formed-seats .ensures,
-      b .before .before .are-in-range .ensures,
-      d .present-seats .ensures .0,
+      ← d .present-seats .ensures .0,
+      ← b .before .before .are-in-range .ensures,
+      ← b .before .are-well-formed-seats .ensures,
+      ← b .quorum .ensures,
+      ← c .before .are-well-formed-proposals .ensures,
+      ← c .are-well-formed-logins .ensures,
     )
 
 pub is-well-formed-spec : {M : Type 1} → statement M

@@ -4,6 +4,7 @@ use state::State;
 mod read;
 mod write;
 
+pub use read::blank_state;
 pub use read::read_checkpoint;
 pub use write::write_checkpoint;
 

@@ -8,6 +8,7 @@ ghost use Rattle.binary.specs.Codec.{decodeRows};
 ghost use Rattle.checkpoint.specs.Format.{seat, proposal, login};
 ghost use Rattle.checkpoint.specs.Checkpoint.{decodeCheckpoint, blankState, readCheckpoint};
 use crate::CheckpointRead;
+use binary::is_record;
 use binary::u16_at;
 use binary::u32_at;
 use binary::u64_at;
@@ -127,19 +128,9 @@ fn state_in(b: &[u8]) -> State
     }
 }
 
-// The slice is one record of a checkpoint's length and kind.
-fn is_framed(b: &[u8]) -> bool
-    ensures { λ r. ⌜ r ≡ isRecord 1106 16 (now (b .entry)) ⌝ }
-{
-    if b.len() != 1108 {
-        return false;
-    }
-    (u16_at(b, 0) == 1106) & (u16_at(b, 2) == 16)
-}
-
-// The answer to bytes that are not a checkpoint.
-fn no_checkpoint() -> CheckpointRead
-    ensures { λ r. ⌜ r ≡ record { ok = false; state = blankState } ⌝ }
+// The blank state, all zero: it stands for none.
+pub fn blank_state() -> State
+    ensures { λ r. ⌜ r ≡ blankState ⌝ }
 {
     let seats = [Seat {
         standing: 0,
@@ -156,20 +147,27 @@ fn no_checkpoint() -> CheckpointRead
         end: Day(0),
         rights: 0,
     }; 64];
+    State {
+        cycle: Cycle(0),
+        day: Day(0),
+        trustees1: 0,
+        trustees2: 0,
+        margin: 0,
+        least: 0,
+        silence: 0,
+        seats,
+        proposals,
+        logins,
+    }
+}
+
+// The answer to bytes that are not a checkpoint.
+fn no_checkpoint() -> CheckpointRead
+    ensures { λ r. ⌜ r ≡ record { ok = false; state = blankState } ⌝ }
+{
     CheckpointRead {
         ok: false,
-        state: State {
-            cycle: Cycle(0),
-            day: Day(0),
-            trustees1: 0,
-            trustees2: 0,
-            margin: 0,
-            least: 0,
-            silence: 0,
-            seats: seats,
-            proposals: proposals,
-            logins: logins,
-        },
+        state: blank_state(),
     }
 }
 
@@ -177,7 +175,7 @@ fn no_checkpoint() -> CheckpointRead
 pub fn read_checkpoint(b: &[u8]) -> CheckpointRead
     ensures { λ r. ⌜ r ≡ readCheckpoint (now (b .entry)) ⌝ }
 {
-    if !is_framed(b) {
+    if !is_record(b, 1106, 16) {
         return no_checkpoint();
     }
     let state = state_in(b);

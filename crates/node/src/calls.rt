@@ -5,7 +5,7 @@ ghost use Prim.Native.Nat.{_≤_, _<_};
 ghost use lib.ListN.{length};
 ghost use Rattle.records.specs.Sheet.{isSheet};
 ghost use Rattle.node.specs.Deliver.{refusesDelivery, performs, votes, deliverRead, deliverOf};
-ghost use Rattle.node.specs.Query.{queryReply, queryOf};
+ghost use Rattle.node.specs.Query.{missesAre, queryReply, queryOf};
 ghost use Rattle.node.specs.Start.{blankNode, refusesStart, startRead, startOf};
 ghost use Rattle.node.specs.Give.{checkpointOf, checkpointSlice};
 use crate::CheckpointAnswer;
@@ -26,6 +26,7 @@ use crate::verdicts::shows_quorum;
 use crate::verdicts::start_refusal;
 use crate::verdicts::vote_refusal;
 use actions::effects::perform;
+use checkpoint::blank_state;
 use checkpoint::read_checkpoint;
 use checkpoint::write_checkpoint;
 use records::Announcement;
@@ -37,11 +38,6 @@ use records::is_sheet;
 use records::read_announcement;
 use records::read_query;
 use records::read_start;
-use state::Cycle;
-use state::Day;
-use state::Login;
-use state::Proposal;
-use state::Seat;
 use state::State;
 
 fn refuse_delivery(n: Node, number: u8) -> DeliverReply
@@ -89,37 +85,9 @@ fn vote_for(n: Node, announcement: &[u8]) -> DeliverReply
 pub fn blank_node() -> Node
     ensures { λ r. ⌜ r ≡ blankNode ⌝ }
 {
-    let seats = [Seat {
-        standing: 0,
-        life: 0,
-    }; 32];
-    let proposals = [Proposal {
-        cycle: Cycle(0),
-        day: Day(0),
-        kind: 0,
-        arguments: 0,
-    }; 16];
-    let logins = [Login {
-        login: 0,
-        end: Day(0),
-        rights: 0,
-    }; 64];
+    let state = blank_state();
     let own = own_afresh(0, 0);
-    Node {
-        state: State {
-            cycle: Cycle(0),
-            day: Day(0),
-            trustees1: 0,
-            trustees2: 0,
-            margin: 0,
-            least: 0,
-            silence: 0,
-            seats: seats,
-            proposals: proposals,
-            logins: logins,
-        },
-        own: own,
-    }
+    Node { state, own }
 }
 
 fn refuse_start(number: u8) -> StartReply
@@ -167,31 +135,32 @@ fn deliver_read(n: Node, announcement: &[u8], a: Announcement, sheet: &[u8]) -> 
     vote_for(n, announcement)
 }
 
+// The reply to a query that leaves the node with this many misses.
+fn reply_with_misses(n: Node, misses: u8, answer: QueryAnswer) -> QueryReply
+    ensures { λ r. ⌜ r ≡ record { node = missesAre misses n; answer = answer } ⌝ }
+{
+    let state = n.state;
+    let own = with_misses(n.own, misses);
+    QueryReply {
+        node: Node { state, own },
+        answer,
+    }
+}
+
 // The reply to a query that is refused with this number, or open where it is 0.
 fn reply_to_query(n: Node, number: u8) -> QueryReply
     requires { ⌜ (19 ≤ number → n .own .misses < 10) ⌝ }
     ensures { λ r. ⌜ r ≡ queryReply n number ⌝ }
 {
-    let own = n.own;
-    let mut node = n;
     if number == 0 {
-        let clear = with_misses(own, 0);
-        node.own = clear;
-        return QueryReply {
-            node: node,
-            answer: QueryAnswer::Open,
-        };
+        return reply_with_misses(n, 0, QueryAnswer::Open);
     }
     if number >= 19 {
-        let missed = with_misses(own, own.misses + 1);
-        node.own = missed;
-        return QueryReply {
-            node: node,
-            answer: QueryAnswer::Refused(number),
-        };
+        let own = n.own;
+        return reply_with_misses(n, own.misses + 1, QueryAnswer::Refused(number));
     }
     QueryReply {
-        node: node,
+        node: n,
         answer: QueryAnswer::Refused(number),
     }
 }

@@ -14,7 +14,7 @@ use Rattle.checkpoint.proofs.read.read_checkpoint.Tie as tie
 
 -- After the first test the slice is one record of a checkpoint's length.
 framed : (c : tie.Else1) → isRecord 1106 16 (now (c .before .before .before .args .b)) ≡ true
-framed c = sym (c .before .is-framed .ensures) ∙ not-false _ (c .if1 .left)
+framed c = sym (c .before .is-record .ensures) ∙ not-false _ (c .if1 .left)
 
 size : (c : tie.Else1) → length (now (c .before .before .before .args .b)) ≡ 1108
 size c = framed-size (now (c .before .before .before .args .b)) (framed c)
@@ -31,15 +31,15 @@ tested c =
     let s = p .before .before .before .before in
     is-tested (now (s .before .before .before .before .args .b)) _ _ _ _ (framed (s .before)) (s .state-in .ensures) (p .count-proposals .ensures) (l .count-logins .ensures) (c .is-well-formed .ensures)
 
-is-framed-requires : tie.Need-is-framed-requires
-is-framed-requires c κs = search needs
+is-record-requires : tie.Need-is-record-requires
+is-record-requires c κs = search needs
 
 no-checkpoint-requires : tie.Need-no-checkpoint-requires
 no-checkpoint-requires c κs = search needs
 
 returns : tie.Need-returns
 unfolding isCheckpoint readCheckpoint
-returns c = rw (c .no-checkpoint .ensures, sym (c .before .before .is-framed .ensures) ∙ not-true _ (c .before .if1 .taken))
+returns c = rw (c .no-checkpoint .ensures, sym (c .before .before .is-record .ensures) ∙ not-true _ (c .before .if1 .taken))
 
 state-in-requires : tie.Need-state-in-requires
 state-in-requires c κs = omega (arith, size c)
@@ -74,7 +74,7 @@ pub read-checkpoint-spec : {M : Type 1} → statement M
 read-checkpoint-spec =
     tie.close
     (tie.spec
-    is-framed-requires
+    is-record-requires
     no-checkpoint-requires
     returns
     state-in-requires

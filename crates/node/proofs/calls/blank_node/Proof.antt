@@ -1,15 +1,17 @@
-use Rattle.checkpoint.specs.Checkpoint.{blankState}
 use Rattle.node.specs.Start.{blankNode}
 use borrow.Author.Needs.{needs}
 use Rattle.node.proofs.calls.blank_node.Statement.{statement}
 use Rattle.node.proofs.calls.blank_node.Tie as tie
 
+blank-state-requires : tie.Need-blank-state-requires
+blank-state-requires c κs = search needs
+
 own-afresh-requires : tie.Need-own-afresh-requires
 own-afresh-requires c κs = search needs
 
 returns : tie.Need-returns
-unfolding blankNode blankState
-returns c = rw (c .own-afresh .ensures)
+unfolding blankNode
+returns c = rw (c .own-afresh .ensures, c .before .blank-state .ensures)
 
 pub blank-node-spec : {M : Type 1} → statement M
-blank-node-spec = tie.close (tie.spec own-afresh-requires returns)
+blank-node-spec = tie.close (tie.spec blank-state-requires own-afresh-requires returns)

@@ -5,22 +5,22 @@ use borrow.Author.Needs.{needs}
 use Rattle.node.proofs.calls.reply_to_query.Statement.{statement}
 use Rattle.node.proofs.calls.reply_to_query.Tie as tie
 
-with-misses-requires : tie.Need-with-misses-requires
-with-misses-requires c κs = search needs
+reply-with-misses-requires : tie.Need-reply-with-misses-requires
+reply-with-misses-requires c κs = search needs
 
 returns : tie.Need-returns
 unfolding queryReply
-returns c = rw (c .with-misses .ensures, eq-eqb _ 0 (c .before .if1 .taken))
+returns c = rw (eq-eqb _ 0 (c .before .if1 .taken)) (c .reply-with-misses .ensures)
 
-add-with-misses : tie.Need-add-with-misses
-add-with-misses c = let h = c .before .before .before .before .pre (c .before .if2 .taken) in omega arith
+add-reply-with-misses : tie.Need-add-reply-with-misses
+add-reply-with-misses c = let h = c .before .before .before .before .pre (c .before .before .if2 .taken) in omega arith
 
-with-misses-requires-2 : tie.Need-with-misses-requires-2
-with-misses-requires-2 c κs = search needs
+reply-with-misses-requires-2 : tie.Need-reply-with-misses-requires-2
+reply-with-misses-requires-2 c κs = search needs
 
 returns-2 : tie.Need-returns-2
 unfolding queryReply
-returns-2 c = rw (c .with-misses2 .ensures, ne-eqb _ 0 (c .before .before .before .if1 .left), le-leb 19 _ (c .before .before .if2 .taken))
+returns-2 c = rw (ne-eqb _ 0 (c .before .before .before .before .if1 .left), le-leb 19 _ (c .before .before .before .if2 .taken)) (c .reply-with-misses2 .ensures)
 
 returns-3 : tie.Need-returns-3
 unfolding queryReply
@@ -30,9 +30,9 @@ pub reply-to-query-spec : {M : Type 1} → statement M
 reply-to-query-spec =
     tie.close
     (tie.spec
-    with-misses-requires
+    reply-with-misses-requires
     returns
-    add-with-misses
-    with-misses-requires-2
+    add-reply-with-misses
+    reply-with-misses-requires-2
     returns-2
     returns-3)

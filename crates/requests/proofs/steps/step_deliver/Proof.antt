@@ -72,7 +72,9 @@ add-t12 c = let s = c .before .before .before .before .before .before .before .b
 
 returns-3 : tie.Need-returns-3
 unfolding stepDeliver
-returns-3 c = rw (sym (rw part-from at (c .before .before .before .before .before .before .before .before .before .frame .ensures)) ∙ c .before .before .before .before .before .before .before .second .given .1, eq-eqb _ _ (c .before .before .before .before .before .if1 .left), c .deliver-answer .ensures, c .before .before .deliver .ensures, sub-zero, sub-zero, part-from) refl
+returns-3 c =
+    let e = rw (sub-zero, sub-zero, part-from) at (c .before .before .deliver .ensures) in
+    rw (sym (rw part-from at (c .before .before .before .before .before .before .before .before .before .frame .ensures)) ∙ c .before .before .before .before .before .before .before .second .given .1, eq-eqb _ _ (c .before .before .before .before .before .if1 .left), ← e, ← c .deliver-answer .ensures) refl
 
 pub step-deliver-spec : {M : Type 1} → statement M
 step-deliver-spec =

@@ -22,7 +22,9 @@ query-answer-requires c κs = search needs
 
 returns : tie.Need-returns
 unfolding stepQuery
-returns c = rw (c .query-answer .ensures, c .before .before .query .ensures, sub-zero) refl
+returns c =
+    let e = rw sub-zero at (c .before .before .query .ensures) in
+    rw (← e, ← c .query-answer .ensures) refl
 
 pub step-query-spec : {M : Type 1} → statement M
 step-query-spec =

@@ -72,7 +72,9 @@ after-start-requires c κs = search needs
 
 returns-3 : tie.Need-returns-3
 unfolding stepStart
-returns-3 c = rw (sym (rw part-from at (c .before .before .before .before .before .before .before .before .frame .ensures)) ∙ c .before .before .before .before .before .before .second .given .1, eq-eqb _ _ (c .before .before .before .before .if1 .left), c .after-start .ensures, c .before .start .ensures, sub-zero, sub-zero, part-from) refl
+returns-3 c =
+    let e = rw (sub-zero, sub-zero, part-from) at (c .before .start .ensures) in
+    rw (sym (rw part-from at (c .before .before .before .before .before .before .before .before .frame .ensures)) ∙ c .before .before .before .before .before .before .second .given .1, eq-eqb _ _ (c .before .before .before .before .if1 .left), ← e) (c .after-start .ensures)
 
 pub step-start-spec : {M : Type 1} → statement M
 step-start-spec =

@@ -20,7 +20,7 @@ same-length c = search needs
 
 returns : tie.Need-returns
 unfolding nodeQuery onImage
-returns c = (rw (c .before .before .hand-out .ensures .0, c .before .before .before .before .query-number .ensures, c .before .before .before .before .before .before .query .ensures, ← c .before .before .before .before .before .before .before .before .before .read-image .ensures, c .before .before .before .before .before .before .before .before .if1 .taken), rw (c .before .before .hand-out .ensures .1, c .before .before .before .before .query-number .ensures, c .before .before .before .before .before .before .query .ensures, ← c .before .before .before .before .before .before .before .before .before .read-image .ensures, c .before .before .before .before .before .before .before .before .if1 .taken))
+returns c = rw (← c .before .before .before .before .before .before .before .before .before .read-image .ensures, c .before .before .before .before .before .before .before .before .if1 .taken, ← c .before .before .before .before .before .before .query .ensures, ← c .before .before .before .before .query-number .ensures) (c .before .before .hand-out .ensures)
 
 returns-2 : tie.Need-returns-2
 unfolding nodeQuery onImage

@@ -17,7 +17,7 @@ same-length c = search needs
 
 returns : tie.Need-returns
 unfolding nodeStart
-returns c = (rw (c .before .before .hand-out .ensures .0, c .before .before .before .before .start-number .ensures, c .before .before .before .before .before .before .start .ensures), rw (c .before .before .hand-out .ensures .1, c .before .before .before .before .start-number .ensures, c .before .before .before .before .before .before .start .ensures))
+returns c = rw (← c .before .before .before .before .before .before .start .ensures, ← c .before .before .before .before .start-number .ensures) (c .before .before .hand-out .ensures)
 
 pub node-start-spec : {M : Type 1} → statement M
 node-start-spec =

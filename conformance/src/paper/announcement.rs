@@ -1,0 +1,187 @@
+//! "Announcement, 24 bytes: length 22; kind 1 to 9; cycle (4); day (4); 12 argument bytes, unused
+//! ones zero."
+
+use super::bytes::{all_zero, record, require, Malformed, Read, Reader};
+use super::fault::{on, Fault as F};
+use super::state::{Cycle, Day, Minima, Subject};
+
+/// The nine actions with their arguments.
+#[derive(Debug, Clone, PartialEq, Eq)]
+pub enum Action {
+    Propose(Subject),
+    Cancel(Cycle),
+    Presents { seat: u8, flag: bool },
+    Certify { seat: u8, life: u32 },
+    Minima(Minima),
+    Remove { seat: u8 },
+    Rejoin { seat: u8, life: u32 },
+    Grant { login: u32, end: Day, rights: u16 },
+    End { login: u32 },
+}
+
+#[derive(Debug, Clone, PartialEq, Eq)]
+pub struct Announcement {
+    pub kind: u16,
+    pub cycle: Cycle,
+    pub day: Day,
+    pub action: Action,
+    /// All of it, as a vote keeps it.
+    pub bytes: Vec<u8>,
+}
+
+impl Announcement {
+    pub fn read(bytes: &[u8]) -> Read<Self> {
+        let (kind, mut reader) = record(bytes, F::AnnouncementLengthUnchecked)?;
+        let kind = read_kind(kind);
+        let cycle = reader.u32()?;
+        require(cycle > 0 || !on(F::AnnouncementCycle0Malformed))?;
+        let day = reader.u32()?;
+        let arguments = reader.take(12)?;
+        reader.end(F::AnnouncementTailTaken)?;
+        Ok(Announcement {
+            kind,
+            cycle: Cycle::new(cycle),
+            day: Day::new(if on(F::AnnouncementDayBigEndian) {
+                day.swap_bytes()
+            } else {
+                day
+            }),
+            action: read_action(kind, arguments)?,
+            bytes: bytes.iter().take(24).copied().collect(),
+        })
+    }
+
+    /// Kinds 4, 5 and 6: the level 2 that they need, and the proposal that they use up.
+    pub fn is_proposed(&self) -> bool {
+        matches!(self.kind, 4..=6)
+    }
+
+    /// What a proposal of this announcement would hold.
+    pub fn subject(&self) -> Subject {
+        Subject {
+            kind: self.kind,
+            arguments: self.bytes[12..20].to_vec(),
+        }
+    }
+}
+
+fn read_kind(kind: u16) -> u16 {
+    match kind {
+        10 if on(F::KindTenTaken) => 9,
+        _ if on(F::KindHighByteIgnored) => kind & 0xff,
+        _ => kind,
+    }
+}
+
+/// The arguments of a kind, from 12 bytes or from the 8 of a subject.
+fn read_action(kind: u16, bytes: &[u8]) -> Read<Action> {
+    let mut reader = Reader::new(bytes);
+    let action = match kind {
+        1 => Action::Propose(read_subject(&mut reader)?),
+        2 => Action::Cancel(read_cancel(&mut reader)?),
+        3 => read_presents(&mut reader)?,
+        4 => read_certify(&mut reader)?,
+        5 => Action::Minima(read_minima(&mut reader)?),
+        6 => Action::Remove {
+            seat: reader.seat(F::ActionSeat32)?,
+        },
+        7 => read_rejoin(&mut reader)?,
+        8 => read_grant(&mut reader)?,
+        9 => read_end(&mut reader)?,
+        _ => return Err(Malformed),
+    };
+    let unchecked = match (kind, bytes.len()) {
+        (1, _) => F::ProposeUnusedUnchecked,
+        (_, 8) => F::SubjectUnusedUnchecked,
+        _ => F::UnusedArgumentsUnchecked,
+    };
+    require(all_zero(reader.rest()) || on(unchecked))?;
+    Ok(action)
+}
+
+/// "subject kind 2 (4, 5 or 6), its first 8 argument bytes"; "a proposal's subject arguments obey
+/// the ranges of their kind".
+pub fn read_subject(reader: &mut Reader) -> Read<Subject> {
+    let kind = reader.u16()?;
+    let arguments = reader.take(8)?;
+    require(
+        matches!(kind, 4..=6)
+            || kind == 7 && on(F::SubjectKind7)
+            || kind == 3 && on(F::SubjectKind3),
+    )?;
+    if !on(F::SubjectArgumentsUnchecked) {
+        read_action(kind, arguments)?;
+    }
+    Ok(Subject {
+        kind,
+        arguments: arguments.to_vec(),
+    })
+}
+
+/// "cycle 4"
+fn read_cancel(reader: &mut Reader) -> Read<Cycle> {
+    let cycle = reader.u32()?;
+    require(cycle > 0 || !on(F::CancelCycle0Malformed))?;
+    Ok(Cycle::new(cycle))
+}
+
+/// "seat 1, flag 1 (1 or 0)"
+fn read_presents(reader: &mut Reader) -> Read<Action> {
+    let seat = reader.seat(F::ActionSeat32)?;
+    let flag = reader.u8()?;
+    require(flag < 2 || flag == 2 && on(F::PresentsFlag2))?;
+    Ok(Action::Presents {
+        seat,
+        flag: flag != 0,
+    })
+}
+
+/// "seat 1, life 4 (at least 1)"
+fn read_certify(reader: &mut Reader) -> Read<Action> {
+    let seat = reader.seat(F::ActionSeat32)?;
+    let life = reader.u32()?;
+    require(life > 0 || on(F::CertifyLife0))?;
+    Ok(Action::Certify { seat, life })
+}
+
+/// "m 1, k 1, S 2", each in its range.
+pub fn read_minima(reader: &mut Reader) -> Read<Minima> {
+    let margin = reader.u8()?;
+    let least_quorum = reader.u8()?;
+    let silence = reader.u16()?;
+    require(margin <= 7 || margin == 8 && on(F::Margin8))?;
+    require(least_quorum >= 1 || on(F::LeastQuorum0))?;
+    require(least_quorum <= 32 || least_quorum == 33 && on(F::LeastQuorum33))?;
+    require(silence >= 1 || on(F::Silence0))?;
+    require(silence <= 365 || silence == 366 && on(F::Silence366))?;
+    Ok(Minima {
+        margin,
+        least_quorum,
+        silence,
+    })
+}
+
+/// "seat 1, life 4"; life 0 is well formed and meets rule 9 or 14.
+fn read_rejoin(reader: &mut Reader) -> Read<Action> {
+    let seat = reader.seat(F::ActionSeat32)?;
+    let life = reader.u32()?;
+    require(life > 0 || !on(F::RejoinLife0Malformed))?;
+    Ok(Action::Rejoin { seat, life })
+}
+
+/// "login 4 (at least 1), end day 4, rights 2 (not 0)"
+fn read_grant(reader: &mut Reader) -> Read<Action> {
+    let login = reader.u32()?;
+    let end = Day::new(reader.u32()?);
+    let rights = reader.u16()?;
+    require(login > 0 || on(F::GrantLogin0))?;
+    require(rights != 0 || on(F::GrantRights0))?;
+    Ok(Action::Grant { login, end, rights })
+}
+
+/// "login 4"; login 0 is well formed and meets rule 13.
+fn read_end(reader: &mut Reader) -> Read<Action> {
+    let login = reader.u32()?;
+    require(login > 0 || !on(F::EndLogin0Malformed))?;
+    Ok(Action::End { login })
+}

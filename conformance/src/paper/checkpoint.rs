@@ -1,0 +1,183 @@
+//! "Checkpoint, 1,108 bytes, length 1,106, kind 16": read into a state and written from one.
+
+use std::collections::BTreeMap;
+
+use super::announcement::{read_minima, read_subject};
+use super::bytes::{all_zero, push_life, push_u16, push_u32, record, require, Read, Reader};
+use super::fault::{on, Fault as F};
+use super::state::{Cycle, Day, Login, Proposal, Seat, Standing, State};
+use super::state::{MOST_LOGINS, MOST_PROPOSALS, SEATS};
+
+pub const SIZE: usize = 1108;
+const PROPOSAL_SIZE: usize = 18;
+const LOGIN_SIZE: usize = 10;
+
+pub fn read(bytes: &[u8]) -> Read<State> {
+    let (kind, mut reader) = record(bytes, F::CheckpointLengthUnchecked)?;
+    require(kind == 16 || on(F::CheckpointKindUnchecked))?;
+    let cycle = reader.u32()?;
+    require(cycle >= 1 || on(F::CheckpointCycle0))?;
+    let day = reader.u32()?;
+    let trustees = [read_trustees(&mut reader)?, read_trustees(&mut reader)?];
+    let minima = read_minima(&mut reader)?;
+    let seats = (0..SEATS).map(|_| read_seat(&mut reader));
+    let state = State {
+        cycle: Cycle::new(cycle),
+        day: Day::new(day),
+        trustees,
+        minima,
+        seats: seats.collect::<Read<_>>()?,
+        proposals: read_proposals(&mut reader)?,
+        logins: read_logins(&mut reader)?,
+    };
+    reader.end(F::CheckpointTailTaken)?;
+    // "quorum at most p"
+    require(state.quorum() <= state.present() || on(F::CheckpointQuorumAboveP))?;
+    require(proposals_fit(&state))?;
+    Ok(state)
+}
+
+/// "numbers of level-1 and level-2 trustees (1 to 8 each)"
+fn read_trustees(reader: &mut Reader) -> Read<u8> {
+    let trustees = reader.u8()?;
+    require(trustees >= 1 || on(F::Trustees0))?;
+    require(trustees <= 8 || trustees == 9 && on(F::Trustees9))?;
+    Ok(trustees.min(8))
+}
+
+/// "standing 1, life 4"; "Life is 32 bits, 0 exactly at free seats."
+fn read_seat(reader: &mut Reader) -> Read<Seat> {
+    let standing = Standing::read(reader.u8()?)?;
+    let life = reader.life()?;
+    match standing {
+        Standing::Free => require(life == 0 || on(F::LifeOnFreeSeat))?,
+        _ => require(life > 0 || on(F::Life0OnHeldSeat))?,
+    }
+    Ok(Seat { standing, life })
+}
+
+/// The used rows of a table, in the order they stand: "Unused rows are zero." The faults are those
+/// of the count, of a count one too high and of the unused rows.
+fn used_rows<'a>(
+    reader: &mut Reader<'a>,
+    most: usize,
+    size: usize,
+    faults: [F; 3],
+) -> Read<Vec<&'a [u8]>> {
+    let count = usize::from(reader.u8()?);
+    let rows = reader.take(most * size)?.chunks(size);
+    if on(faults[0]) {
+        return Ok(rows.take_while(|row| !all_zero(row)).collect());
+    }
+    require(count <= most || count == most + 1 && on(faults[1]))?;
+    let unused_zero = rows.clone().skip(count).all(all_zero);
+    require(unused_zero || on(faults[2]))?;
+    Ok(rows.take(count).collect())
+}
+
+/// "proposal count 1, 16 times cycle 4, day 4, subject kind 2, subject arguments 8"
+fn read_proposals(reader: &mut Reader) -> Read<Vec<Proposal>> {
+    let faults = [
+        F::ProposalCountUnchecked,
+        F::ProposalCount17,
+        F::UnusedProposalUnchecked,
+    ];
+    let rows = used_rows(reader, MOST_PROPOSALS, PROPOSAL_SIZE, faults)?;
+    rows.into_iter().map(read_proposal).collect()
+}
+
+fn read_proposal(row: &[u8]) -> Read<Proposal> {
+    let mut reader = Reader::new(row);
+    let cycle = reader.u32()?;
+    require(cycle > 0 || !on(F::ProposalCycle0Malformed))?;
+    Ok(Proposal {
+        cycle: Cycle::new(cycle),
+        day: Day::new(reader.u32()?),
+        subject: read_subject(&mut reader)?,
+    })
+}
+
+/// "proposals in strictly rising cycle below the cycle, day at most the agreed day"
+fn proposals_fit(state: &State) -> bool {
+    let pairs = state.proposals.iter().zip(state.proposals.iter().skip(1));
+    let rising = pairs.clone().all(|(a, b)| match () {
+        _ if on(F::ProposalsEqualCycle) => a.cycle <= b.cycle,
+        _ if on(F::ProposalsFalling) => a.cycle != b.cycle,
+        _ if on(F::ProposalDaysMustRise) => a.cycle < b.cycle && a.day <= b.day,
+        _ => a.cycle < b.cycle,
+    });
+    let in_time = state.proposals.iter().all(|proposal| {
+        let earlier = proposal.cycle < state.cycle
+            || proposal.cycle == state.cycle && on(F::ProposalOfCurrentCycle);
+        earlier && (proposal.day <= state.day || on(F::ProposalDayAhead))
+    });
+    rising && in_time
+}
+
+/// "login count 1, 64 times login 4, end day 4, rights 2"; "logins at least 1 and strictly rising,
+/// rights not zero".
+fn read_logins(reader: &mut Reader) -> Read<BTreeMap<u32, Login>> {
+    let faults = [
+        F::LoginCountUnchecked,
+        F::LoginCount65,
+        F::UnusedLoginUnchecked,
+    ];
+    let rows = used_rows(reader, MOST_LOGINS, LOGIN_SIZE, faults)?;
+    let rows = rows.into_iter().map(read_login).collect::<Read<Vec<_>>>()?;
+    let mut pairs = rows.iter().zip(rows.iter().skip(1));
+    let rising = pairs.all(|(a, b)| a.0 < b.0 || on(F::LoginsNotRising));
+    require(rising)?;
+    Ok(rows.into_iter().collect())
+}
+
+fn read_login(row: &[u8]) -> Read<(u32, Login)> {
+    let mut reader = Reader::new(row);
+    let login = reader.u32()?;
+    let end = Day::new(reader.u32()?);
+    let rights = reader.u16()?;
+    require(login >= 1 || on(F::CheckpointLogin0))?;
+    require(rights != 0 || on(F::CheckpointRights0))?;
+    Ok((login, Login { end, rights }))
+}
+
+/// Each state has one checkpoint: the rows that are left are zero.
+pub fn write(state: &State) -> Vec<u8> {
+    let mut out = Vec::with_capacity(SIZE);
+    push_u16(&mut out, 1106);
+    push_u16(&mut out, 16);
+    push_u32(&mut out, state.cycle.number());
+    push_u32(&mut out, state.day.number());
+    out.extend(state.trustees);
+    out.extend([state.minima.margin, state.minima.least_quorum]);
+    push_u16(&mut out, state.minima.silence);
+    for seat in &state.seats {
+        out.push(seat.standing as u8);
+        push_life(&mut out, seat.life);
+    }
+    write_proposals(state, &mut out);
+    write_logins(state, &mut out);
+    out
+}
+
+fn write_proposals(state: &State, out: &mut Vec<u8>) {
+    out.push(state.proposals.len() as u8);
+    let end = out.len() + MOST_PROPOSALS * PROPOSAL_SIZE;
+    for proposal in state.proposals.iter().take(MOST_PROPOSALS) {
+        push_u32(out, proposal.cycle.number());
+        push_u32(out, proposal.day.number());
+        push_u16(out, proposal.subject.kind);
+        out.extend(&proposal.subject.arguments);
+    }
+    out.resize(end, 0);
+}
+
+fn write_logins(state: &State, out: &mut Vec<u8>) {
+    out.push(state.logins.len() as u8);
+    let end = out.len() + MOST_LOGINS * LOGIN_SIZE;
+    for (login, listed) in state.logins.iter().take(MOST_LOGINS) {
+        push_u32(out, *login);
+        push_u32(out, listed.end.number());
+        push_u16(out, listed.rights);
+    }
+    out.resize(end, 0);
+}

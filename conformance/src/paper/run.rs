@@ -1,0 +1,171 @@
+//! The program node-run on a whole input.
+
+use super::fault::{on, Fault as F};
+use super::node::Node;
+use super::start::start;
+use super::Answer::{self, Done, Given, No, Open, Started, Voted};
+
+/// What ends the run: a cut record, one out of its place, or no node to ask.
+struct Ends;
+
+/// What is left of the input, and the node if there is one.
+struct Run<'a> {
+    rest: &'a [u8],
+    node: Option<Node>,
+}
+
+/// What node-run prints: "one line each: ordinal, answer, the node's cycle after it (0 if none)".
+pub fn node_run(input: &[u8]) -> Vec<u8> {
+    let mut run = Run {
+        rest: input,
+        node: None,
+    };
+    let mut lines = String::new();
+    let mut ordinal = u64::from(!on(F::RunOrdinalFrom0));
+    // "input that ends before a request just ends the run"
+    while !run.rest.is_empty() || on(F::RunEndPrintsNo) {
+        if on(F::RunStrayByteSilent) && run.rest.len() == 1 {
+            break;
+        }
+        let before = run.cycle();
+        let answered = run.request();
+        let cycle = match answered {
+            Err(_) if on(F::RunCutPrintsCycle0) => 0,
+            _ if on(F::RunCycleBefore) => before,
+            _ => run.cycle(),
+        };
+        let ends = answered.is_err() && (run.rest.is_empty() || !on(F::RunGoesOn));
+        let answer = answered.unwrap_or(No(1));
+        let ends = ends || answer == No(1) && on(F::RunMalformedEnds);
+        lines += &format!("{ordinal} {} {cycle}\n", word(answer));
+        ordinal += 1;
+        if ends {
+            break;
+        }
+    }
+    lines.into_bytes()
+}
+
+/// "started", "voted", "done", "open", or "no" and the number.
+fn word(answer: Answer) -> String {
+    match answer {
+        Started => "started".into(),
+        Voted => "voted".into(),
+        Done => "done".into(),
+        Open => "open".into(),
+        Given => "given".into(),
+        No(number) => format!("no {number}"),
+    }
+}
+
+/// The whole bytes of the shortest record of a kind that has a place.
+fn least_size(kind: u16) -> Option<usize> {
+    let (size, one_less) = match kind {
+        1..=9 => (24, F::RunAnnouncement23),
+        16 => (1108, F::RunCheckpoint1107),
+        18 if on(F::RunSheet12) => return Some(12),
+        18 => (7, F::RunSheet6),
+        19 => (9, F::RunStart8),
+        20 => (13, F::RunQuery12),
+        _ => return None,
+    };
+    Some(size - usize::from(on(one_less)))
+}
+
+impl<'a> Run<'a> {
+    fn cycle(&self) -> u32 {
+        self.node.as_ref().map_or(0, Node::cycle)
+    }
+
+    /// "Records are framed by their length and placed by their kind". What is cut takes the rest of
+    /// the input.
+    fn record(&mut self) -> Result<(u16, &'a [u8]), Ends> {
+        let input = std::mem::take(&mut self.rest);
+        let &[low, high, ref follows @ ..] = input else {
+            return Err(Ends);
+        };
+        let length = usize::from(u16::from_le_bytes([low, high]));
+        let kind = match *follows {
+            [low, high, ..] if length >= 2 => u16::from_le_bytes([low, high]),
+            _ => return Err(Ends),
+        };
+        if follows.len() < length {
+            return Err(Ends);
+        }
+        let (record, rest) = input.split_at(2 + length);
+        self.rest = rest;
+        let kind = if on(F::RunKindLowByte) {
+            kind & 0xff
+        } else {
+            kind
+        };
+        // "A record too short for its kind (a sheet: under 7 bytes) ... counts as cut".
+        let least = least_size(kind).ok_or(Ends)?;
+        if record.len() < least && !on(F::RunShortAnswered) {
+            return Err(Ends);
+        }
+        Ok((kind, record))
+    }
+
+    /// The second record of a request.
+    fn second(&mut self, expected: u16) -> Result<&'a [u8], Ends> {
+        let (kind, record) = self.record()?;
+        if kind == expected {
+            Ok(record)
+        } else {
+            Err(Ends)
+        }
+    }
+
+    /// "start and checkpoint (one request), then announcement and sheet (one), or query (one)"
+    fn request(&mut self) -> Result<Answer, Ends> {
+        let (kind, first) = self.record()?;
+        match kind {
+            16 if on(F::RunCheckpointFirst) => {
+                let second = self.second(19)?;
+                Ok(self.start(first, second))
+            }
+            19 if on(F::RunSecondStartMisplaced) && self.node.is_some() => Err(Ends),
+            19 => {
+                let second = self.second(16)?;
+                Ok(self.start(second, first))
+            }
+            1..=9 => self.deliver(first),
+            // "an announcement or query before any node" ends the run.
+            20 => Ok(self.node.as_mut().ok_or(Ends)?.query(first)),
+            _ => Err(Ends),
+        }
+    }
+
+    /// "A later start replaces the node if it is accepted and leaves it otherwise."
+    fn start(&mut self, checkpoint: &[u8], record: &[u8]) -> Answer {
+        match start(checkpoint, record) {
+            Ok(node) => {
+                if self.node.is_none() || !on(F::RunLaterStartIgnored) {
+                    self.node = Some(node);
+                }
+                Started
+            }
+            Err(number) => {
+                if on(F::RefusedStartLosesNode) {
+                    self.node = None;
+                }
+                No(number)
+            }
+        }
+    }
+
+    /// A malformed announcement still takes its sheet.
+    fn deliver(&mut self, announcement: &[u8]) -> Result<Answer, Ends> {
+        if self.node.is_none() {
+            return Err(Ends);
+        }
+        let malformed = super::announcement::Announcement::read(announcement).is_err();
+        if on(F::RunMalformedTakesNoSheet) && malformed {
+            return Ok(No(1));
+        }
+        let sheet = self.second(18)?;
+        let node = self.node.as_mut().ok_or(Ends)?;
+        Ok(node.deliver(announcement, sheet))
+    }
+}

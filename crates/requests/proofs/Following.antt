@@ -2,7 +2,7 @@
 use Prim.Native.Nat.{ℕ, zero, suc, _+_, _*_, _≤_}
 use native.Mathlib.Omega.{arith}
 use mathlib.Core.Path.{_≡_, refl, ap}
-use mathlib.Core.Bool.{Bool, true, false, cond, _&&_, _||_, and-eq-true-iff}
+use mathlib.Core.Bool.{Bool, true, false, cond, _&&_, or-true, and-eq-true-iff}
 use mathlib.Core.List.{List, [], _∷_, _++_}
 use lib.Dec.{eqb, leb}
 use lib.ListN.{length, drop, length-append, length-drop}
@@ -22,10 +22,6 @@ use Rattle.requests.proofs.Frames.{record-heads, record-fits, frame-fit
 cond-both : (t : Bool) {x x′ y y′ : Step} → (t ≡ true → x ≡ x′) → (t ≡ false → y ≡ y′) → cond t x y ≡ cond t x′ y′
 cond-both true f g = f refl
 cond-both false f g = g refl
-
-or-right : (t : Bool) → (t || true) ≡ true
-or-right true = refl
-or-right false = refl
 
 module _ (c : List ℕ) where
   number-front : (w : ℕ) (b : List ℕ) → w ≤ length b → fromBytes w (b ++ c) ≡ fromBytes w b
@@ -81,7 +77,7 @@ module _ (c : List ℕ) where
       let second : hasSecond (kindOf b) ≡ true → holdsRecord (drop (sizeOf b) b) ≡ true = λ s. rw s at (t .1) in
       cond-cases (λ (x : Frame). placed n (b ++ c) x ≡ placed n b x) (holdsRecord b && leb (leastSize (kindOf b)) (sizeOf b))
       (λ _. cond-both (eqb (kindOf b) 19)
-      (λ e. start-front n b (sizeOf b) fits (second (rw e (or-right (isAnnouncement (kindOf b))))))
+      (λ e. start-front n b (sizeOf b) fits (second (rw e (or-true (isAnnouncement (kindOf b))))))
       (λ _. cond-both (isNone n) (λ _. refl)
       (λ _. cond-both (eqb (kindOf b) 20) (λ _. query-front n b (sizeOf b) fits)
       (λ _. cond-both (isAnnouncement (kindOf b)) (λ e. deliver-front n b (sizeOf b) fits (second (rw e refl))) (λ _. refl)))))

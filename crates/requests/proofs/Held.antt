@@ -5,7 +5,6 @@ use mathlib.Core.Path.{_≡_, refl, sym, _∙_}
 use mathlib.Core.Bool.{true, false, and-eq-true-iff}
 use mathlib.Core.List.{List}
 use lib.Dec.{eqb}
-use lib.ListN.{take, drop}
 use borrow.Author.Tests.{leb-true, ne-eqb}
 use Rattle.lists.proofs.Tests.{cond-cases}
 use Rattle.state.specs.declared.State.{State}
@@ -29,12 +28,9 @@ use Rattle.node.specs.Claims.{Delivery, Asking, Starting}
 use Rattle.node.proofs.Start.{start-comes-to}
 use Rattle.node.proofs.Deliver.{deliver-comes-to}
 use Rattle.node.proofs.Query.{query-comes-to}
-use Rattle.requests.specs.declared.Frame.{Frame}
-use Rattle.requests.specs.declared.Frame.the-variants.{Record, Cut}
 use Rattle.requests.specs.declared.Answer.the-variants as Answer
-use Rattle.requests.specs.declared.Step.{Step}
-use Rattle.requests.specs.Framing.{isAnnouncement, frameOf}
-use Rattle.requests.specs.Requests.{isNone, cuts, answers, deliverAnswer, queryAnswer, startStep, afterStart, withSecond, stepStart, stepDeliver, stepQuery, placed, stepOf}
+use Rattle.requests.specs.Requests.{isNone, answers, deliverAnswer, queryAnswer, startStep}
+use Rattle.requests.proofs.Outcomes.{step-cases}
 use Rattle.requests.specs.Claims.{KeepsNode, StartsNode}
 
 -- a well-formed state has a cycle
@@ -85,36 +81,12 @@ start-held cb sb h = go (start-comes-to cb sb)
     go (Starting.refuses k w e) = absurd (refused-not-started (sym e ∙ h))
     go (Starting.starts x r o a l e) = rw e (cycle-held (readCheckpoint cb .state) (checkpoint-held cb o))
 
--- what holds of the node held before and of one that started holds of the node after a step
-module _ (n : Node) (P : Step → Type 0)
-    (cut : P (cuts n))
-    (start : (used : ℕ) (cb sb : List ℕ) → P (afterStart n used (startOf cb sb)))
-    (deliver : (used : ℕ) (ab sb : List ℕ) → P (answers (deliverOf n ab sb .node) (deliverAnswer (deliverOf n ab sb .answer)) used))
-    (query : (used : ℕ) (qb : List ℕ) → P (answers (queryOf n qb .node) (queryAnswer (queryOf n qb .answer)) used)) where
-  second-goes : (kind : ℕ) (f : ℕ → List ℕ → Step) (b : List ℕ) → ((size : ℕ) (v : List ℕ) → P (f size v)) → (x : Frame) → P (withSecond n kind f b x)
-  second-goes kind f b h Cut = cut
-  second-goes kind f b h (Record size k) = cond-cases P (eqb k kind) (λ _. h size (take size b)) (λ _. cut)
-
-  placed-goes : (b : List ℕ) (x : Frame) → P (placed n b x)
-  unfolding stepStart stepDeliver stepQuery
-  placed-goes b Cut = cut
-  placed-goes b (Record size kind) =
-      cond-cases P (eqb kind 19) (λ _. second-goes 16 _ (drop size b) (λ more cb. start (size + more) cb (take size b)) (frameOf (drop size b)))
-      (λ _. cond-cases P (isNone n) (λ _. cut)
-      (λ _. cond-cases P (eqb kind 20) (λ _. query size (take size b))
-      (λ _. cond-cases P (isAnnouncement kind) (λ _. second-goes 18 _ (drop size b) (λ more sb. deliver (size + more) (take size b) sb) (frameOf (drop size b))) (λ _. cut))))
-
-  step-goes : (b : List ℕ) → P (stepOf n b)
-  unfolding stepOf
-  step-goes b = placed-goes b (frameOf b)
-
 pub keeps-node : KeepsNode
 keeps-node n b h =
-    step-goes n (λ s. isNone (s .node) ≡ false) h
-    (λ used cb sb. go used cb sb (startOf cb sb .answer) refl)
-    (λ used ab sb. deliver-held n ab sb h)
-    (λ used qb. query-held n qb h)
-    b
+    step-cases n b (λ s. isNone (s .node) ≡ false) h
+    (λ used cb sb _. go used cb sb (startOf cb sb .answer) refl)
+    (λ used ab sb _. deliver-held n ab sb h)
+    (λ used qb _. query-held n qb h)
   where
     go : (used : ℕ) (cb sb : List ℕ) (a : StartAnswer) → startOf cb sb .answer ≡ a → isNone (startStep n used (startOf cb sb .node) a .node) ≡ false
     go used cb sb S.Started e = start-held cb sb e
@@ -122,12 +94,11 @@ keeps-node n b h =
 
 pub starts-node : StartsNode
 starts-node n b =
-    step-goes n (λ s. s .answer ≡ Answer.Started → isNone (s .node) ≡ false)
+    step-cases n b (λ s. s .answer ≡ Answer.Started → isNone (s .node) ≡ false)
     (other n 1)
-    (λ used cb sb. started used cb sb (startOf cb sb .answer) refl)
-    (λ used ab sb. delivered (deliverOf n ab sb .node) used (deliverOf n ab sb .answer))
-    (λ used qb. asked (queryOf n qb .node) used (queryOf n qb .answer))
-    b
+    (λ used cb sb _. started used cb sb (startOf cb sb .answer) refl)
+    (λ used ab sb _. delivered (deliverOf n ab sb .node) used (deliverOf n ab sb .answer))
+    (λ used qb _. asked (queryOf n qb .node) used (queryOf n qb .answer))
   where
     other : (m : Node) (k : ℕ) → Answer.No k ≡ Answer.Started → isNone m ≡ false
     other m k e = absurd (let z : _≡_ {A = ℕ} 0 1 = cc in omega arith)

@@ -37,25 +37,25 @@
 
 /* Starts a node from a checkpoint, at the seat and under the life of a start record.
  * Refusals: 1, 22, 9, 14. Writes the image with 0. A refused start makes no node. */
-#define ACCESS_NODE_STACK_START 10240
+#define ACCESS_NODE_STACK_START 4096
 uint32_t node_start(const uint8_t *checkpoint, size_t checkpoint_length, const uint8_t *start, size_t start_length, uint8_t *image_out,
                     size_t image_out_length);
 
 /* Delivers an announcement with its sheet: performs it where the sheet shows a quorum, else votes for it.
  * Refusals: 1, 2, 22, 3 to 16. Writes the image with 0 and ACCESS_NODE_VOTED. */
-#define ACCESS_NODE_STACK_DELIVER 19456
+#define ACCESS_NODE_STACK_DELIVER 15360
 uint32_t node_deliver(const uint8_t *image, size_t image_length, const uint8_t *announcement, size_t announcement_length,
                       const uint8_t *sheet, size_t sheet_length, uint8_t *image_out, size_t image_out_length);
 
 /* Asks whether a login may use a right on a day.
  * Refusals: 1, 22, 3, 17 to 21. Writes the image with 0, misses set to 0, and with 19, 20 and 21, one miss added. */
-#define ACCESS_NODE_STACK_QUERY 12288
+#define ACCESS_NODE_STACK_QUERY 5120
 uint32_t node_query(const uint8_t *image, size_t image_length, const uint8_t *query, size_t query_length, uint8_t *image_out,
                     size_t image_out_length);
 
 /* Gives the checkpoint of the node's state.
  * Refusals: 1, 22. Writes the checkpoint with 0. */
-#define ACCESS_NODE_STACK_CHECKPOINT 9216
+#define ACCESS_NODE_STACK_CHECKPOINT 4096
 uint32_t node_checkpoint(const uint8_t *image, size_t image_length, uint8_t *checkpoint_out, size_t checkpoint_out_length);
 
 #endif

@@ -2,6 +2,7 @@
 
 use super::call::{Outcome, Records, Request, VOTED};
 use crate::archive;
+use crate::calls::{ARCHIVE, PAPER};
 use crate::paper::{self, Answer, Node};
 use std::panic::{catch_unwind, AssertUnwindSafe};
 
@@ -19,8 +20,8 @@ pub fn compare(request: &Request) -> Result<Outcome, String> {
     let before = pattern(out + 2 * GUARD);
     let mut proved = before.clone();
     let mut second = before.clone();
-    let number = through_archive(image, records, &mut proved[GUARD..GUARD + out]);
-    let expected = guarded(|| through_paper(image, records, &mut second[GUARD..GUARD + out]))?;
+    let number = ARCHIVE.make(image, records, &mut proved[GUARD..GUARD + out]);
+    let expected = guarded(|| PAPER.make(image, records, &mut second[GUARD..GUARD + out]))?;
     if number != expected {
         return Err(format!("archive answers {number}, paper {expected}"));
     }
@@ -54,30 +55,6 @@ fn pattern(length: usize) -> Vec<u8> {
 /// A panic of the second implementation is a difference like any other.
 fn guarded<T>(call: impl FnOnce() -> T) -> Result<T, String> {
     catch_unwind(AssertUnwindSafe(call)).map_err(|_| "paper panics".to_string())
-}
-
-fn through_archive(image: &[u8], records: &Records, out: &mut [u8]) -> u32 {
-    match records {
-        Records::Start { checkpoint, start } => archive::node_start(checkpoint, start, out),
-        Records::Deliver {
-            announcement,
-            sheet,
-        } => archive::node_deliver(image, announcement, sheet, out),
-        Records::Query { query } => archive::node_query(image, query, out),
-        Records::Checkpoint => archive::node_checkpoint(image, out),
-    }
-}
-
-fn through_paper(image: &[u8], records: &Records, out: &mut [u8]) -> u32 {
-    match records {
-        Records::Start { checkpoint, start } => paper::image::node_start(checkpoint, start, out),
-        Records::Deliver {
-            announcement,
-            sheet,
-        } => paper::image::node_deliver(image, announcement, sheet, out),
-        Records::Query { query } => paper::image::node_query(image, query, out),
-        Records::Checkpoint => paper::image::node_checkpoint(image, out),
-    }
 }
 
 fn number(answer: Answer) -> u32 {

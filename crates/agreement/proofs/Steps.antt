@@ -17,14 +17,13 @@ use Rattle.node.specs.declared.Node.{Node}
 use Rattle.node.specs.declared.StartReply.{StartReply}
 use Rattle.node.specs.declared.StartAnswer.the-variants.{Started}
 use Rattle.node.specs.declared.DeliverReply.{DeliverReply}
-use Rattle.node.specs.declared.QueryReply.{QueryReply}
 use Rattle.node.specs.Answers.{startNumber, deliverNumber}
 use Rattle.node.specs.Deliver.{deliverOf}
 use Rattle.node.specs.Start.{startOf}
 use Rattle.node.specs.Claims as Node
-use Rattle.node.specs.Claims.{Delivery, Asking, Starting}
+use Rattle.node.specs.Claims.{Delivery, Starting}
 use Rattle.node.proofs.Deliver.{deliver-comes-to}
-use Rattle.node.proofs.Query.{query-comes-to}
+use Rattle.node.proofs.Query.{query-keeps-state}
 use Rattle.node.proofs.Start.{start-comes-to}
 use Rattle.node.proofs.Numbers.{start-numbers}
 use Rattle.node_c.specs.Image.{imageBytes, readImage}
@@ -36,12 +35,6 @@ use Rattle.agreement.specs.History.{Host, byValue, throughC, Call, start
 use Rattle.agreement.specs.Claims.{Performed, Park, _∈_}
 use Rattle.agreement.proofs.Chain.{Reached, origin, next}
 use Rattle.agreement.proofs.Calls.{leave, onHost, run-deliver, run-query, Left, ran, startBy, run-start, start-refused, start-accepted, Gave, run-checkpoint}
-
--- a query leaves the state as it was
-query-state : (n : Node) (qb : List ℕ) (r : QueryReply) → Asking n qb r → r .node .state ≡ n .state
-query-state n qb r (Node.refuses k l y e) = ap (λ (x : QueryReply). x .node .state) e
-query-state n qb r (Node.misses k l m y e) = ap (λ (x : QueryReply). x .node .state) e
-query-state n qb r (Node.opens q rq o e) = ap (λ (x : QueryReply). x .node .state) e
 
 module _ (first : List ℕ) (calls : History) where
   -- the announcement a is performed from s by a deliver call of the list
@@ -200,7 +193,7 @@ module _ (first : List ℕ) (calls : History) where
         rw (run-query w h qb out)
         (good-on w h (asked qb) out G
         (λ n e. query-keeps-well-formed n qb (G .held h n e .well-formed))
-        (λ l. subst Reach (sym (query-state (l .node) qb _ (query-comes-to (l .node) qb))) (G .held h (l .node) (l .held) .reach)))
+        (λ l. subst Reach (sym (query-keeps-state (l .node) qb)) (G .held h (l .node) (l .held) .reach)))
 
     -- ---- checkpoint
 

@@ -3,4 +3,5 @@ pub mod Number
 pub mod Codec
 pub mod Splices
 pub mod Rows
+pub mod Copies
 pub mod Frames

@@ -4,6 +4,7 @@ use native.Mathlib.Nat.{suc-mul, zero-mul, add-comm}
 use native.Mathlib.Numerals.{add-one}
 use native.Mathlib.Omega.{arith}
 use mathlib.Core.Path.{_≡_, refl, sym, ap, _∙_}
+use mathlib.Core.Bool.{Bool}
 use mathlib.Core.List.{List, [], _∷_, _++_, append-assoc, append-nil}
 use lib.ListN.{length, getD, set, take, drop, length-append, length-set}
 use lib.Seq.{take-suc-set, take-suc, take-all, drop-drop, length-take-le}
@@ -24,6 +25,34 @@ module _ {A : Type 0} (f : Codec A) where
   decodeRows-snoc (suc n) b =
       let k : f .width + n * f .width ≡ suc n * f .width = add-comm (f .width) (n * f .width) ∙ sym (suc-mul n (f .width)) in
       rw (decodeRows-snoc n (drop (f .width) b), drop-drop, k)
+
+  -- row i of n lies after i rows, and there is none from n on
+  row-of : (n i : ℕ) (b : List ℕ) (d : A) → i < n → getD (decodeRows f n b) i d ≡ f .decode (drop (i * f .width) b)
+  unfolding decodeRows
+  row-of zero i b d h = absurd (omega arith)
+  row-of (suc n) zero b d h = rw zero-mul
+  row-of (suc n) (suc i) b d h =
+      let k : f .width + i * f .width ≡ suc i * f .width = add-comm (f .width) (i * f .width) ∙ sym (suc-mul i (f .width)) in
+      row-of n i (drop (f .width) b) d (omega arith) ∙ rw (drop-drop, k)
+
+  pub no-row : (n i : ℕ) (b : List ℕ) (d : A) → n ≤ i → getD (decodeRows f n b) i d ≡ d
+  unfolding decodeRows
+  no-row zero i b d h = refl
+  no-row (suc n) zero b d h = absurd (omega arith)
+  no-row (suc n) (suc i) b d h = no-row n i (drop (f .width) b) d (omega arith)
+
+  pub row-at : (n : ℕ) (s : List ℕ) (at i : ℕ) (d : A) → i < n → getD (decodeRows f n (drop at s)) i d ≡ f .decode (drop (at + i * f .width) s)
+  row-at n s at i d h = row-of n i (drop at s) d h ∙ ap (λ (l : List ℕ). f .decode l) (drop-drop (i * f .width) at s)
+
+  -- a test of row i
+  pub row-test : (n : ℕ) (s : List ℕ) (at i : ℕ) (d : A) (p : A → Bool) (x : A) (t : Bool) → i < n → x ≡ f .decode (drop (at + i * f .width) s) → t ≡ p x
+      → p (getD (decodeRows f n (drop at s)) i d) ≡ t
+  row-test n s at i d p x t h e q = ap p (row-at n s at i d h ∙ sym e) ∙ sym q
+
+  pub length-decodeRows : (n : ℕ) (b : List ℕ) → length (decodeRows f n b) ≡ n
+  unfolding decodeRows
+  length-decodeRows zero b = refl
+  length-decodeRows (suc n) b = ap suc (length-decodeRows n (drop (f .width) b))
 
   -- the first i of the n rows in b are read into a table
   pub record RowsRead (n : ℕ) (b : List ℕ) (i : ℕ) (table : List A) : Type 0 where

@@ -10,6 +10,13 @@ ghost use lib.ListN.{length};
 ghost use Rattle.binary.specs.Number.{toBytes, field};
 ghost use Rattle.binary.specs.Splice.{splice};
 
+// A byte as a number of rows or as an index.
+pub fn size(x: u8) -> usize
+    ensures { λ r. ⌜ r ≡ x ⌝ }
+{
+    x as usize
+}
+
 // The number with these two bytes, lowest first.
 fn two(a: u8, b: u8) -> u16
     ensures { λ r. ⌜ r ≡ a + 256 * b ⌝ }
@@ -66,6 +73,20 @@ pub fn put_u32(out: &mut [u8], at: usize, x: u32)
     out[at + 1] = (x / 256 % 256) as u8;
     out[at + 2] = (x / 256 / 256 % 256) as u8;
     out[at + 3] = (x / 256 / 256 / 256 % 256) as u8;
+}
+
+// Writes bytes at a position, and answers where they end.
+pub fn put_bytes(out: &mut [u8], at: usize, bytes: &[u8]) -> usize
+    requires { ⌜ at + length (now bytes) ≤ length (now out) ⌝ }
+    ensures { λ r. ⌜ r ≡ at + length (now (bytes .entry)) ⌝ }
+    ensures { λ _. ⌜ now (out .exit) ≡ splice (now (out .entry)) at (now (bytes .entry)) ⌝ }
+{
+    let mut i: usize = 0;
+    while i < bytes.len() {
+        out[at + i] = bytes[i];
+        i += 1;
+    }
+    at + bytes.len()
 }
 
 // The number with these two halves, lowest first.

@@ -1,21 +1,24 @@
 -- A checkpoint read: its fields at their offsets, and what the tests come to.
-use Prim.Native.Nat.{ℕ, _+_}
-use mathlib.Core.Path.{_≡_, refl, ap, _∙_}
-use mathlib.Core.Bool.{Bool, true, _&&_, and-eq-true-iff}
+use Prim.Native.Nat.{ℕ, _+_, _*_, _≤_, _<_}
+use native.Mathlib.Nat.{add-zero, mul-comm}
+use mathlib.Core.Path.{_≡_, refl, sym, ap, _∙_}
+use mathlib.Core.Bool.{Bool, true, false, _&&_, and-eq-true-iff, and-false}
 use mathlib.Core.List.{List}
-use lib.Dec.{eqb}
+use lib.Dec.{eqb, leb}
 use lib.ListN.{length, getD, drop}
 use lib.Seq.{getD-drop, drop-drop}
 use borrow.Author.Tests.{eqb-true}
-use Rattle.lists.specs.Fold.{count}
+use Rattle.lists.specs.Fold.{all, count}
 use Rattle.binary.specs.Number.{field, byteAt, isRecord}
 use Rattle.binary.specs.Codec.{decodeRows}
-use Rattle.state.specs.declared.State.{State}
+use Rattle.binary.proofs.Rows.{row-at, no-row}
 use Rattle.state.specs.Time.{cycle, day}
+use Rattle.state.specs.Seats.{free, freeSeat, seatAt, presentSeats, quorumOf}
 use Rattle.state.specs.Proposals.{isProposal}
 use Rattle.state.specs.Logins.{isLogin}
-use Rattle.state.specs.WellFormed.{isWellFormed}
+use Rattle.state.specs.WellFormed.{isWellFormedSeat, areWellFormedProposals, areWellFormedLogins, areInRange, isWellFormed}
 use Rattle.checkpoint.specs.Format.{Counted, seat, proposal, login}
+use Rattle.checkpoint.specs.Parts.{isHead, hasProposals, hasLogins}
 use Rattle.checkpoint.specs.Checkpoint.{decodeCheckpoint, isCheckpoint}
 
 -- The fields at their offsets.
@@ -61,16 +64,50 @@ decoded-at b =
     let e₄₆₈ = after b _ 467 1 e₄₆₇ in
     rw (byte-at b _ 12 e₁₂, byte-at b _ 13 e₁₃, byte-at b _ 14 e₁₄, byte-at b _ 15 e₁₅, byte-at b _ 178 e₁₇₈, byte-at b _ 467 e₄₆₇, e₄₆₈, e₁₇₉, e₁₈, e₁₆, e₈, e₄)
 
+-- The standing of seat i where it lies in the bytes.
+module _ (b : List ℕ) (i : ℕ) where
+  pub standing-at : i < 32 → seatAt i (decodeCheckpoint b .state .seats) .standing ≡ byteAt (18 + 5 * i) b
+  standing-at h =
+      ap {B = ℕ} (λ c. seatAt i (c .state .seats) .standing) (decoded-at b)
+      ∙ ap {B = ℕ} (λ x. x .standing) (row-at seat 32 b 18 i freeSeat h)
+      ∙ simp (getD-drop, add-zero, mul-comm i 5)
+
+  pub no-standing : 32 ≤ i → seatAt i (decodeCheckpoint b .state .seats) .standing ≡ free
+  no-standing h =
+      ap {B = ℕ} (λ c. seatAt i (c .state .seats) .standing) (decoded-at b)
+      ∙ ap {B = ℕ} (λ x. x .standing) (no-row seat 32 i (drop 18 b) freeSeat h)
+
 -- A checkpoint's record has 1,108 bytes.
 pub framed-size : (b : List ℕ) → isRecord 1106 16 b ≡ true → length b ≡ 1108
 framed-size b e = eqb-true _ _ ((simp and-eq-true-iff at e) .0 .0)
 
--- What is tested of a record: the state s in it, and what was computed of s.
-pub is-tested : (b : List ℕ) (s : State) (p l : ℕ) (w : Bool) → isRecord 1106 16 b ≡ true → s ≡ decodeCheckpoint b .state
-    → p ≡ count isProposal (s .proposals) → l ≡ count isLogin (s .logins) → w ≡ isWellFormed s
-    → isCheckpoint b ≡ ((eqb (byteAt 178 b) p && eqb (byteAt 467 b) l) && w)
+-- The parts in which a record is tested.
+regroup : (a b c d e f p l : Bool) → ((a && b) && (c && (d && (e && (f && (p && l)))))) ≡ ((c && (d && (e && f))) && ((a && p) && (b && l)))
+regroup a b false d e f p l = and-false (a && b)
+regroup a b true false e f p l = and-false (a && b)
+regroup a b true true false f p l = and-false (a && b)
+regroup a b true true true false p l = and-false (a && b)
+regroup true true true true true true p l = refl
+regroup true false true true true true p l = sym (and-false p)
+regroup false b true true true true p l = refl
+
+pub in-parts : (b : List ℕ) → let c = decodeCheckpoint b in isCheckpoint b ≡ (isRecord 1106 16 b && (isHead (c .state) && (hasProposals c && hasLogins c)))
+unfolding isCheckpoint isWellFormed isHead hasProposals hasLogins
+in-parts b =
+    let c = decodeCheckpoint b in
+    let s = c .state in
+    ap (λ (t : Bool). isRecord 1106 16 b && t)
+    (regroup
+    (eqb (c .proposals) (count isProposal (s .proposals)))
+    (eqb (c .logins) (count isLogin (s .logins)))
+    (leb 1 (s .cycle .0))
+    (areInRange s)
+    (all isWellFormedSeat (s .seats))
+    (leb (quorumOf s) (presentSeats (s .seats)))
+    (areWellFormedProposals (s .cycle) (s .day) (s .proposals))
+    (areWellFormedLogins (s .logins)))
+
+-- An accepted checkpoint has 1,108 bytes.
+pub accepted-size : (b : List ℕ) → isCheckpoint b ≡ true → length b ≡ 1108
 unfolding isCheckpoint
-is-tested b s p l w f e g h k =
-    let m : decodeCheckpoint b .proposals ≡ byteAt 178 b = ap {B = ℕ} (λ c. c .proposals) (decoded-at b) in
-    let n : decodeCheckpoint b .logins ≡ byteAt 467 b = ap {B = ℕ} (λ c. c .logins) (decoded-at b) in
-    rw (f, g, h, k, e, m, n)
+accepted-size b e = framed-size b (and-eq-true-iff (isRecord 1106 16 b) _ .0 e .0)

@@ -3,12 +3,11 @@ ghost use mathlib.Core.Path.{_≡_};
 ghost use mathlib.Core.Bool.{false};
 ghost use Prim.Native.Nat.{_+_, _≤_};
 ghost use lib.ListN.{length, drop};
-ghost use Rattle.binary.specs.Number.{isRecord};
 ghost use Rattle.binary.specs.Codec.{decodeRows};
 ghost use Rattle.checkpoint.specs.Format.{seat, proposal, login};
 ghost use Rattle.checkpoint.specs.Checkpoint.{decodeCheckpoint, blankState, readCheckpoint};
 use crate::CheckpointRead;
-use binary::is_record;
+use crate::is_checkpoint;
 use binary::u16_at;
 use binary::u32_at;
 use binary::u64_at;
@@ -18,11 +17,8 @@ use state::Login;
 use state::Proposal;
 use state::Seat;
 use state::State;
-use state::login_table::count_logins;
-use state::proposal_table::count_proposals;
-use state::well_formed::is_well_formed;
 
-fn seat_at(b: &[u8], at: usize) -> Seat
+pub fn seat_at(b: &[u8], at: usize) -> Seat
     requires { ⌜ at + 5 ≤ length (now b) ⌝ }
     ensures { λ r. ⌜ r ≡ seat .decode (drop at (now (b .entry))) ⌝ }
 {
@@ -32,7 +28,7 @@ fn seat_at(b: &[u8], at: usize) -> Seat
     }
 }
 
-fn proposal_at(b: &[u8], at: usize) -> Proposal
+pub fn proposal_at(b: &[u8], at: usize) -> Proposal
     requires { ⌜ at + 18 ≤ length (now b) ⌝ }
     ensures { λ r. ⌜ r ≡ proposal .decode (drop at (now (b .entry))) ⌝ }
 {
@@ -44,7 +40,7 @@ fn proposal_at(b: &[u8], at: usize) -> Proposal
     }
 }
 
-fn login_at(b: &[u8], at: usize) -> Login
+pub fn login_at(b: &[u8], at: usize) -> Login
     requires { ⌜ at + 10 ≤ length (now b) ⌝ }
     ensures { λ r. ⌜ r ≡ login .decode (drop at (now (b .entry))) ⌝ }
 {
@@ -107,7 +103,7 @@ fn logins_at(b: &[u8], at: usize) -> [Login; 64]
 }
 
 // The state in a checkpoint's bytes, whatever they are.
-fn state_in(b: &[u8]) -> State
+pub fn state_in(b: &[u8]) -> State
     requires { ⌜ 1108 ≤ length (now b) ⌝ }
     ensures { λ r. ⌜ r ≡ decodeCheckpoint (now (b .entry)) .state ⌝ }
 {
@@ -175,19 +171,11 @@ fn no_checkpoint() -> CheckpointRead
 pub fn read_checkpoint(b: &[u8]) -> CheckpointRead
     ensures { λ r. ⌜ r ≡ readCheckpoint (now (b .entry)) ⌝ }
 {
-    if !is_record(b, 1106, 16) {
-        return no_checkpoint();
-    }
-    let state = state_in(b);
-    let proposals = state.proposals;
-    let logins = state.logins;
-    let counted = (b[178] == count_proposals(proposals)) & (b[467] == count_logins(logins));
-    if counted & is_well_formed(state) {
-        CheckpointRead {
+    if is_checkpoint(b) {
+        return CheckpointRead {
             ok: true,
-            state: state,
-        }
-    } else {
-        no_checkpoint()
+            state: state_in(b),
+        };
     }
+    no_checkpoint()
 }

@@ -3,6 +3,7 @@ pub mod Cases
 pub mod Tests
 pub mod Every
 pub mod Tables
+pub mod Fronts
 pub mod Count
 pub mod Loops
 pub mod Marks

@@ -1,6 +1,6 @@
 -- One turn of a loop over a list, and its end, for each fold and each operation on tables. The loop stands at index i of the list.
 use mathlib.Core.Path.{_≡_, refl, sym, ap, _∙_}
-use mathlib.Core.Bool.{Bool, true, false, cond, not, _&&_, _||_, and-false, and-assoc}
+use mathlib.Core.Bool.{Bool, true, false, _&&_}
 use mathlib.Core.List.{List, _∷_, _++_, append-assoc, append-nil}
 use Prim.Native.Nat.{ℕ, suc, _+_, _-_, _<_, _≤_}
 use native.Mathlib.Numerals.{add-one}
@@ -10,7 +10,7 @@ use lib.Dec.{leb}
 use lib.ListN.{length, getD, take, drop, set, replicate, drop-of-length-le, length-set, length-replicate, take-append-drop}
 use lib.Seq.{drop-cons, take-suc, take-suc-set, drop-set-lt, take-all, set-split, length-take-le, take-append-seam}
 use Rattle.lists.specs.Fold.{any, all, count, first}
-use Rattle.lists.specs.Table.{risingFrom, keep, fill, replaceFirst, indexOf, insertAt}
+use Rattle.lists.specs.Table.{leading, keep, fill, replaceFirst, indexOf, insertAt}
 
 -- A turn, where the element at i passes the test or does not. The value d is that of indices that the list does not have.
 module _ {A : Type 0} (p : A → Bool) (l : List A) (i : ℕ) (d : A) (h : i < length l) where
@@ -154,40 +154,17 @@ module _ {A : Type 0} (x : A) (l : List A) (i : ℕ) where
   unfolding insertAt
   insert-end h = rw (take-all i l h) (take-append-seam l _)
 
--- The truth values of the tests of a row (u: used, o: all rows before it are used, h: its key is high enough, k: its own test) and of the rows after it.
-tests : (u o h k rising some each : Bool)
-    → (cond o (cond u (h && rising) (not some)) (not (u || some)) && (k && each)) ≡ ((k && (not u || (o && h))) && (cond u rising (not some) && each))
-tests u o h false rising some each = and-false (cond o (cond u (h && rising) (not some)) (not (u || some)))
-tests true true h true rising some each = and-assoc h rising each
-tests true false h true rising some each = refl
-tests false true h true rising some each = refl
-tests false false h true rising some each = refl
+-- A loop that counts the rows at the front that pass and are in order.
+module _ {A : Type 0} (p : A → Bool) (key : A → ℕ) (l : List A) (i lo : ℕ) where
+  pub leading-pass : (d : A) → i < length l → (leb lo (key (getD l i d)) && p (getD l i d)) ≡ true
+      → leading p key lo (drop i l) ≡ 1 + leading p key (key (getD l i d) + 1) (drop (i + 1) l)
+  unfolding leading
+  leading-pass d h e = rw (add-one (key (getD l i d)), add-one i, drop-cons l i d h, e) (omega arith)
 
--- A loop that tests the order of a table and each of its rows at once.
-module _ {A : Type 0} (used : A → Bool) (key : A → ℕ) (ok : A → Bool) where
-  -- the rows that are left pass, where `filled` says that all before them are used and lo is the least key that may come
-  unfoldable pub inOrder : Bool → ℕ → List A → Bool
-  inOrder filled lo rows = cond filled (risingFrom used key lo rows) (not (any used rows)) && all ok rows
+  pub leading-fail : (d : A) → i < length l → (leb lo (key (getD l i d)) && p (getD l i d)) ≡ false → leading p key lo (drop i l) ≡ 0
+  unfolding leading
+  leading-fail d h e = rw (drop-cons l i d h, e)
 
-  -- the test of one row
-  abbrev pub isNext : Bool → ℕ → A → Bool
-  isNext filled lo r = ok r && (not (used r) || (filled && leb lo (key r)))
-
-  order-row : (filled : Bool) (lo : ℕ) (r : A) (rs : List A) → inOrder filled lo (r ∷ rs) ≡ (isNext filled lo r && inOrder (used r) (suc (key r)) rs)
-  unfolding inOrder risingFrom any all
-  order-row filled lo r rs = tests (used r) filled (leb lo (key r)) (ok r) (risingFrom used key (suc (key r)) rs) (any used rs) (all ok rs)
-
-  module _ (l : List A) (i : ℕ) (filled : Bool) (lo : ℕ) where
-    pub order-pass : (d : A) → i < length l → isNext filled lo (getD l i d) ≡ true → inOrder filled lo (drop i l) ≡ inOrder (used (getD l i d)) (key (getD l i d) + 1) (drop (i + 1) l)
-    order-pass d h e = rw (add-one (key (getD l i d)), add-one i, drop-cons l i d h) (order-row filled lo (getD l i d) (drop (suc i) l) ∙ rw e)
-
-    pub order-fail : (d : A) → i < length l → isNext filled lo (getD l i d) ≡ false → inOrder filled lo (drop i l) ≡ false
-    order-fail d h e = rw (drop-cons l i d h) (order-row filled lo (getD l i d) (drop (suc i) l) ∙ rw e)
-
-    pub order-end : length l ≤ i → inOrder filled lo (drop i l) ≡ true
-    unfolding inOrder risingFrom any all
-    order-end h = rw (drop-of-length-le l {i = i} h) (none filled)
-      where
-        none : (b : Bool) → (cond b true true && true) ≡ true
-        none true = refl
-        none false = refl
+  pub leading-end : length l ≤ i → leading p key lo (drop i l) ≡ 0
+  unfolding leading
+  leading-end h = rw (drop-of-length-le l {i = i} h)

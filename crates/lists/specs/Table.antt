@@ -11,6 +11,11 @@ unfoldable pub risingFrom : {A : Type 0} → (A → Bool) → (A → ℕ) → �
 risingFrom used key lo [] = true
 risingFrom used key lo (r ∷ rs) = cond (used r) (leb lo (key r) && risingFrom used key (suc (key r)) rs) (not (any used rs))
 
+-- the number of rows at the front that pass the test, with strictly rising keys of at least lo
+unfoldable pub leading : {A : Type 0} → (A → Bool) → (A → ℕ) → ℕ → List A → ℕ
+leading p key lo [] = 0
+leading p key lo (r ∷ rs) = cond (leb lo (key r) && p r) (suc (leading p key (suc (key r)) rs)) 0
+
 -- the rows that pass the test, in order
 unfoldable pub keep : {A : Type 0} → (A → Bool) → List A → List A
 keep p [] = []

@@ -15,6 +15,8 @@ use Rattle.records.specs.Sheet.{isSheet}
 use Rattle.actions.specs.Rules.{timeRefusal}
 use Rattle.actions.proofs.Refusals.{passes, passes-rule, not-zero, bounds, time-within, action-within}
 use Rattle.node.specs.declared.Node.{Node}
+use Rattle.node.specs.declared.DeliverReply.{DeliverReply}
+use Rattle.node.specs.Answers.{deliverNumber}
 use Rattle.node.specs.Own.{isHalted, canVote, isSameBytes, votedOtherwise}
 use Rattle.node.specs.Deliver as Deliver
 use Rattle.node.specs.Deliver.{deliverRefusal, showsQuorum, voteRefusal, withoutQuorum, deliverRead, deliverRecords, deliverOf}
@@ -77,3 +79,12 @@ module _ (n : Node) (ab sb : List ℕ) where
 pub deliver-comes-to : DeliverComesTo
 unfolding deliverOf
 deliver-comes-to n ab sb = by-records n ab sb (readAnnouncement ab) refl
+
+-- a delivery that performs nothing leaves the state as it was
+delivery-state : (n : Node) (ab sb : List ℕ) (r : DeliverReply) → Delivery n ab sb r → deliverNumber (r .answer) ≢ 0 → r .node .state ≡ n .state
+delivery-state n ab sb r (refuses k y e) z = ap (λ (x : DeliverReply). x .node .state) e
+delivery-state n ab sb r (votes a acc few m e) z = ap (λ (x : DeliverReply). x .node .state) e
+delivery-state n ab sb r (performs a acc q e) z = absurd (z (ap (λ (x : DeliverReply). deliverNumber (x .answer)) e))
+
+pub deliver-keeps-state : (n : Node) (ab sb : List ℕ) → deliverNumber (deliverOf n ab sb .answer) ≢ 0 → deliverOf n ab sb .node .state ≡ n .state
+deliver-keeps-state n ab sb z = delivery-state n ab sb (deliverOf n ab sb) (deliver-comes-to n ab sb) z

@@ -1,5 +1,5 @@
 -- What a query comes to.
-use mathlib.Core.Path.{_≡_, refl}
+use mathlib.Core.Path.{_≡_, refl, ap}
 use mathlib.Core.Bool.{Bool, true, false, not}
 use mathlib.Core.List.{List}
 use Prim.Native.Nat.{ℕ, _≤_, _<_}
@@ -17,6 +17,7 @@ use Rattle.records.specs.declared.QueryRead.the-variants.{Read, Malformed}
 use Rattle.records.specs.StartQuery.{readQuery}
 use Rattle.actions.proofs.Refusals.{unrefused, passes-rule, by-rule, refused, not-zero}
 use Rattle.node.specs.declared.Node.{Node}
+use Rattle.node.specs.declared.QueryReply.{QueryReply}
 use Rattle.node.specs.Own.{isHalted}
 use Rattle.node.specs.Query.{mostMisses, queryRefusal, queryReply, queryRecord, queryOf}
 use Rattle.node.specs.Claims.{QueryRefused, malformed, halted, locked, silent, unlisted, ended, right-not-held, Opens, Asking, refuses, misses, opens, QueryComesTo}
@@ -81,3 +82,12 @@ by-record n qb (Read q) e = at (eqb (queryRefusal n q) 0) refl
 pub query-comes-to : QueryComesTo
 unfolding queryOf
 query-comes-to n qb = by-record n qb (readQuery qb) refl
+
+-- a query leaves the state as it was
+asking-state : (n : Node) (qb : List ℕ) (r : QueryReply) → Asking n qb r → r .node .state ≡ n .state
+asking-state n qb r (refuses k l y e) = ap (λ (x : QueryReply). x .node .state) e
+asking-state n qb r (misses k l m y e) = ap (λ (x : QueryReply). x .node .state) e
+asking-state n qb r (opens q rq o e) = ap (λ (x : QueryReply). x .node .state) e
+
+pub query-keeps-state : (n : Node) (qb : List ℕ) → queryOf n qb .node .state ≡ n .state
+query-keeps-state n qb = asking-state n qb (queryOf n qb) (query-comes-to n qb)

@@ -1,5 +1,5 @@
 -- What a call for C returns.
-use mathlib.Core.Path.{_≡_, refl, ap}
+use mathlib.Core.Path.{_≡_, refl, sym, ap, _∙_}
 use mathlib.Core.Logic.{_⊎_, inl, inr}
 use mathlib.Core.Bool.{Bool, true, false, cond, _||_, and-eq-true-iff, true≢false}
 use mathlib.Core.List.{List}
@@ -9,8 +9,7 @@ use lib.ListN.{length}
 use borrow.Author.Tests.{eqb-true, eqb-false, leb-true, leb-false, le-leb}
 use Rattle.lists.proofs.Tests.{cond-cases, or-false-of}
 use Rattle.binary.specs.Number.{overwrite}
-use Rattle.node_c.specs.declared.ImageRead.{ImageRead}
-use Rattle.node_c.specs.Image.{imageSize, imageBytes, isImage, readImage}
+use Rattle.node_c.specs.Image.{imageSize, imageBytes, isImage, ImageRead, readImage}
 use Rattle.node_c.specs.Calls.{HandedBack, Returned, tryRoom, writesImage, return, onImage}
 use Rattle.node_c.specs.Claims.{Writes, Returning, no-room, writes, leaves, CallsReturn, CallsOnImages}
 
@@ -45,12 +44,23 @@ leaves-to k n = at (writesImage k) refl
     at false e = e
 
 -- a slice that has room keeps the number
-pub has-room-number : (k : ℕ) → tryRoom true k ≡ k
+has-room-number : (k : ℕ) → tryRoom true k ≡ k
 has-room-number k = at (eqb k 1 || eqb k 2)
   where
     at : (t : Bool) → cond t k k ≡ k
     at true = refl
     at false = refl
+
+-- an image is written only where the slice has room, and for the call's own number
+pub writes-in-room : (room : Bool) (k : ℕ) → writesImage (tryRoom room k) ≡ true → (room ≡ true) × (writesImage k ≡ true)
+writes-in-room true k e = (refl, ap writesImage (sym (has-room-number k)) ∙ e)
+writes-in-room false k e = absurd (true≢false (sym e ∙ leaves))
+  where
+    leaves : writesImage (tryRoom false k) ≡ false
+    leaves =
+        cond-cases (λ (x : ℕ). writesImage x ≡ false) (eqb k 1 || eqb k 2)
+        (or-cases (eqb k 1) (eqb k 2) (λ q. ap writesImage (eqb-true k 1 q)) (λ q. ap writesImage (eqb-true k 2 q)))
+        (λ _. refl)
 
 module _ (r : HandedBack) (out : List ℕ) where
   -- with this number, where an image is written or not

@@ -13,6 +13,7 @@ use Rattle.binary.proofs.Number.{bytes-take, bytes-drop}
 use Rattle.binary.proofs.Codec.{Laws, byte-laws, number-laws, rows-laws, read-back, written-back, _⊗-laws_}
 use Rattle.state.specs.WellFormed.{isWellFormed}
 use Rattle.checkpoint.specs.Checkpoint.{checkpointBytes, decodeCheckpoint}
+use Rattle.checkpoint.specs.Claims.{ReadState}
 use Rattle.checkpoint.proofs.Checkpoint.{checkpoint-length, checkpoint-decoded, checkpoint-accepted, decoded-state}
 use Rattle.node.specs.declared.Node.{Node}
 use Rattle.node_c.specs.Image.{ownFields, fieldsOf, ownOf, Fits, imageBytes, decodeImage, isWellFormedOwn, isImage, readImage}
@@ -72,15 +73,25 @@ pub node-read-back : NodeReadBack
 unfolding readImage
 node-read-back n w = rw (image-accepted n (w .fits) (w .state) (w .own), image-decoded n (w .fits))
 
--- What is read from bytes that are accepted: t is what the tests tell, s the state, p the fields of the own part.
+-- Bytes that are accepted are as many as an image has.
+pub image-size : (b : List ℕ) → isImage b ≡ true → length b ≡ 1139
+unfolding isImage
+image-size b e = eqb-true _ _ ((simp and-eq-true-iff at e) .0)
+
+-- What is read from bytes that are accepted: first the state.
+pub image-state : (b : List ℕ) → Bytes b → isImage b ≡ true → ReadState (take 1108 b) (decodeImage b .state)
+unfolding isImage decodeImage
+image-state b h e = let t = simp and-eq-true-iff at e in decoded-state (take 1108 b) (bytes-take 1108 b h) (t .1 .0)
+
+-- t is what the tests tell, s the state, p the fields of the own part
 decoded-node : (b : List ℕ) → Bytes b → isImage b ≡ true → ReadNode b (decodeImage b)
 unfolding isImage decodeImage imageBytes
 decoded-node b h e =
     let t = simp and-eq-true-iff at e in
-    let s = decoded-state (take 1108 b) (bytes-take 1108 b h) (t .1 .0) in
+    let s = image-state b h e in
     let d = drop 1108 b in
     let g = bytes-drop 1108 b h in
-    let n : length d ≡ 31 = rw length-drop (omega (arith, eqb-true)) in
+    let n : length d ≡ 31 = rw length-drop (omega (arith, image-size b e)) in
     let p = ownFields .decode d in
     let v = flag-forth (p .1 .1 .0) (leb-true _ _ (t .1 .1 .0)) in
     let f : fieldsOf (ownOf p) ≡ p = λ i. (p .0, (p .1 .0, (v i, p .1 .1 .1))) in

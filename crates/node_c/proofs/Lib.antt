@@ -3,3 +3,4 @@ pub mod Image
 pub mod WellFormed
 pub mod Calls
 mod Parts
+mod Kept

@@ -21,7 +21,6 @@ use Rattle.node.specs.declared.Node.{Node}
 use Rattle.node.specs.Give.{checkpointSize}
 use Rattle.node.specs.Query.{mostMisses}
 use Rattle.node.specs.Start.{blankNode}
-use Rattle.node_c.specs.declared.ImageRead.{ImageRead}
 
 abbrev pub imageSize : ℕ
 imageSize = 1139
@@ -74,6 +73,11 @@ isImage b =
     eqb (length b) imageSize
     && (isCheckpoint (take checkpointSize b)
     && (leb (ownFields .decode (drop checkpointSize b) .1 .1 .0) 1 && isWellFormedOwn (n .state) (n .own)))
+
+-- what reading an image gives: the node, or the blank one where the bytes are not a well-formed image
+pub record ImageRead : Type 0 where
+  pub ok : Bool
+  pub node : Node
 
 unfoldable pub readImage : List ℕ → ImageRead
 readImage b = cond (isImage b) (record { ok = true; node = decodeImage b }) (record { ok = false; node = blankNode })

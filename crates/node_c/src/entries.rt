@@ -1,12 +1,21 @@
 // The four calls for C: each is the call by value on the node of an image, with its answer as a number.
 ghost use mathlib.Core.Path.{_≡_};
+ghost use mathlib.Core.Bool.{true, cond};
+ghost use mathlib.Core.List.{_++_};
+ghost use lib.Dec.{leb};
+ghost use lib.ListN.{length};
+ghost use Rattle.binary.specs.Number.{overwrite};
 ghost use Rattle.node.specs.Answers.{startNumber, deliverNumber, queryNumber, checkpointNumber};
-ghost use Rattle.node_c.specs.Calls.{writesImage, return, nodeStart, nodeDeliver, nodeQuery, nodeCheckpoint};
-use crate::read_image;
+ghost use Rattle.node_c.specs.Image.{imageSize, ownFields, fieldsOf};
+ghost use Rattle.node_c.specs.Calls.{tryRoom, writesImage, return, nodeStart, nodeDeliver, nodeQuery, nodeCheckpoint};
+use crate::is_image;
+use crate::node_in;
+use crate::write::put_image;
 use crate::write_image;
 use node::CheckpointAnswer;
 use node::DeliverAnswer;
 use node::Node;
+use node::Own;
 use node::QueryAnswer;
 use node::StartAnswer;
 
@@ -55,25 +64,40 @@ fn writes_image(k: u32) -> bool
     (k == 0) | ((k == 128) | ((19 <= k) & (k <= 21)))
 }
 
-// What a call by value handed back, for C: rule 22 is tried straight after 1 and 2.
-fn hand_out(n: Node, k: u32, out: &mut [u8]) -> u32
-    ensures { λ r. ⌜ r ≡ return (record { node = n; number = k }) (now (out .entry)) .number ⌝ }
-    ensures { λ r. ⌜ now (out .exit) ≡ return (record { node = n; number = k }) (now (out .entry)) .slice ⌝ }
+// Rule 22 is tried straight after 1 and 2.
+fn try_room(room: bool, k: u32) -> u32
+    ensures { λ r. ⌜ r ≡ tryRoom room k ⌝ }
 {
-    if out.len() < 1139 {
-        if k == 1 {
-            return 1;
-        }
-        if k == 2 {
-            return 2;
-        }
-        return 22;
-    }
-    if writes_image(k) {
-        write_image(n, out);
+    if (k == 1) | (k == 2) {
         return k;
     }
-    k
+    if room { k } else { 22 }
+}
+
+// For C, what a call handed back that kept the state: the image's state is the checkpoint's bytes that came with the call.
+fn hand_on(state: &[u8], own: Own, k: u32, out: &mut [u8]) -> u32
+    requires { ⌜ (writesImage k ≡ true → length (now state) ≡ 1108) ⌝ }
+    ensures { λ r. ⌜ r ≡ tryRoom (leb imageSize (length (now (out .entry)))) k ⌝ }
+    ensures { λ r. ⌜ now (out .exit) ≡ cond (writesImage r) (overwrite (now (state .entry) ++ ownFields .encode (fieldsOf own)) (now (out .entry))) (now (out .entry)) ⌝ }
+{
+    let number = try_room(1139 <= out.len(), k);
+    if writes_image(number) {
+        put_image(state, own, out);
+        return number;
+    }
+    number
+}
+
+// For C, what a delivery handed back that performed: the image is of the whole node.
+fn hand_out(n: Node, out: &mut [u8]) -> u32
+    ensures { λ r. ⌜ r ≡ return (record { node = n; number = 0 }) (now (out .entry)) .number ⌝ }
+    ensures { λ r. ⌜ now (out .exit) ≡ return (record { node = n; number = 0 }) (now (out .entry)) .slice ⌝ }
+{
+    if out.len() < 1139 {
+        return 22;
+    }
+    write_image(n, out);
+    0
 }
 
 #[no_mangle]
@@ -84,7 +108,7 @@ pub extern "C" fn node_start(checkpoint: &[u8], start: &[u8], out: &mut [u8]) ->
     let r = Node::start(checkpoint, start);
     let node = r.node;
     let answer = r.answer;
-    hand_out(node, start_number(answer), out)
+    hand_on(checkpoint, node.own, start_number(answer), out)
 }
 
 #[no_mangle]
@@ -97,13 +121,16 @@ pub extern "C" fn node_deliver(
     ensures { λ r. ⌜ r ≡ nodeDeliver (now (image .entry)) (now (announcement .entry)) (now (sheet .entry)) (now (out .entry)) .number ⌝ }
     ensures { λ r. ⌜ now (out .exit) ≡ nodeDeliver (now (image .entry)) (now (announcement .entry)) (now (sheet .entry)) (now (out .entry)) .slice ⌝ }
 {
-    let read = read_image(image);
-    if read.ok {
-        let held = read.node;
+    if is_image(image) {
+        let held = node_in(image);
         let r = held.deliver(announcement, sheet);
         let node = r.node;
         let answer = r.answer;
-        return hand_out(node, deliver_number(answer), out);
+        let k = deliver_number(answer);
+        if k == 0 {
+            return hand_out(node, out);
+        }
+        return hand_on(&image[0..1108], node.own, k, out);
     }
     1
 }
@@ -113,13 +140,12 @@ pub extern "C" fn node_query(image: &[u8], query: &[u8], out: &mut [u8]) -> u32
     ensures { λ r. ⌜ r ≡ nodeQuery (now (image .entry)) (now (query .entry)) (now (out .entry)) .number ⌝ }
     ensures { λ r. ⌜ now (out .exit) ≡ nodeQuery (now (image .entry)) (now (query .entry)) (now (out .entry)) .slice ⌝ }
 {
-    let read = read_image(image);
-    if read.ok {
-        let held = read.node;
+    if is_image(image) {
+        let held = node_in(image);
         let r = held.query(query);
         let node = r.node;
         let answer = r.answer;
-        return hand_out(node, query_number(answer), out);
+        return hand_on(&image[0..1108], node.own, query_number(answer), out);
     }
     1
 }
@@ -129,9 +155,8 @@ pub extern "C" fn node_checkpoint(image: &[u8], out: &mut [u8]) -> u32
     ensures { λ r. ⌜ r ≡ nodeCheckpoint (now (image .entry)) (now (out .entry)) .number ⌝ }
     ensures { λ r. ⌜ now (out .exit) ≡ nodeCheckpoint (now (image .entry)) (now (out .entry)) .slice ⌝ }
 {
-    let read = read_image(image);
-    if read.ok {
-        let held = read.node;
+    if is_image(image) {
+        let held = node_in(image);
         let r = held.checkpoint(out);
         let answer = r.answer;
         return checkpoint_number(answer);

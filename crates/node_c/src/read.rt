@@ -1,24 +1,21 @@
 // An image read from a slice.
 ghost use mathlib.Core.Path.{_≡_};
-ghost use mathlib.Core.Bool.{false};
 ghost use Prim.Native.Nat.{_+_, _≤_};
 ghost use lib.ListN.{length, drop};
 ghost use Rattle.binary.specs.Codec.{byte, decodeRows};
-ghost use Rattle.node.specs.Start.{blankNode};
-ghost use Rattle.node_c.specs.Image.{ownFields, ownOf, isWellFormedVote, isWellFormedOwn, readImage};
-use crate::ImageRead;
+ghost use Rattle.state.specs.Seats.{seatAt};
+ghost use Rattle.checkpoint.specs.Checkpoint.{decodeCheckpoint};
+ghost use Rattle.node_c.specs.Image.{ownFields, ownOf, decodeImage, isWellFormedVote, isWellFormedOwn, isImage};
 use binary::u32_at;
-use checkpoint::read_checkpoint;
+use checkpoint::is_checkpoint;
+use checkpoint::state_in;
 use node::Node;
 use node::Own;
-use node::blank_node;
 use records::AnnouncementRead;
 use records::is_zero_from;
 use records::read_announcement;
 use state::Cycle;
-use state::State;
 use state::seat_table::FREE;
-use state::seat_table::seat_at;
 
 fn vote_at(b: &[u8], at: usize) -> [u8; 24]
     requires { ⌜ at + 24 ≤ length (now b) ⌝ }
@@ -62,44 +59,50 @@ fn is_well_formed_vote(cycle: Cycle, voted: bool, vote: &[u8]) -> bool
     }
 }
 
-// The tests of an own part against the state; its vote comes as a slice too.
-fn is_well_formed_own(s: State, own: Own, vote: &[u8]) -> bool
-    requires { ⌜ own .vote ≡ now vote ⌝ }
-    ensures { λ r. ⌜ r ≡ isWellFormedOwn s own ⌝ }
+// The standing of seat i in a checkpoint's bytes, and free where there is no such seat.
+fn standing_at(b: &[u8], i: u8) -> u8
+    requires { ⌜ 1108 ≤ length (now b) ⌝ }
+    ensures { λ r. ⌜ r ≡ seatAt i (decodeCheckpoint (now (b .entry)) .state .seats) .standing ⌝ }
 {
-    let seats = s.seats;
-    let seat = seat_at(seats, own.seat);
-    let voted = is_well_formed_vote(s.cycle, own.voted, vote);
-    (own.seat < 32) & ((seat.standing != FREE) & ((1 <= own.life) & (voted & (own.misses <= 10))))
-}
-
-// The answer to bytes that are not an image.
-fn no_image() -> ImageRead
-    ensures { λ r. ⌜ r ≡ record { ok = false; node = blankNode } ⌝ }
-{
-    ImageRead {
-        ok: false,
-        node: blank_node(),
+    let at = i as usize;
+    if 32 <= at {
+        return FREE;
     }
+    b[18 + 5 * at]
 }
 
-// Reads a slice that is to be exactly one well-formed image.
-pub fn read_image(b: &[u8]) -> ImageRead
-    ensures { λ r. ⌜ r ≡ readImage (now (b .entry)) ⌝ }
+// The tests of an own part against the state, both in an image's bytes.
+fn is_well_formed_own(b: &[u8]) -> bool
+    requires { ⌜ length (now b) ≡ 1139 ⌝ }
+    ensures { λ r. ⌜ r ≡ isWellFormedOwn (decodeImage (now (b .entry)) .state) (decodeImage (now (b .entry)) .own) ⌝ }
+{
+    let standing = standing_at(&b[0..1108], b[1108]);
+    let cycle = u32_at(&b[0..1108], 4);
+    let voted = is_well_formed_vote(Cycle(cycle), b[1113] == 1, &b[1114..1138]);
+    let life = u32_at(b, 1109);
+    (b[1108] < 32) & ((standing != FREE) & ((1 <= life) & (voted & (b[1138] <= 10))))
+}
+
+// The bytes are exactly one well-formed image. They are tested where they lie, so that a node is decoded once, and never for a refusal.
+pub fn is_image(b: &[u8]) -> bool
+    ensures { λ r. ⌜ r ≡ isImage (now (b .entry)) ⌝ }
 {
     if b.len() != 1139 {
-        return no_image();
+        return false;
     }
-    let checkpoint = read_checkpoint(&b[0..1108]);
-    let state = checkpoint.state;
+    if is_checkpoint(&b[0..1108]) {
+        let own = is_well_formed_own(b);
+        return (b[1113] <= 1) & own;
+    }
+    false
+}
+
+// The node in an image's bytes, whatever they are.
+pub fn node_in(b: &[u8]) -> Node
+    requires { ⌜ 1139 ≤ length (now b) ⌝ }
+    ensures { λ r. ⌜ r ≡ decodeImage (now (b .entry)) ⌝ }
+{
+    let state = state_in(&b[0..1108]);
     let own = own_in(b);
-    let fits = is_well_formed_own(state, own, &b[1114..1138]);
-    if checkpoint.ok & ((b[1113] <= 1) & fits) {
-        ImageRead {
-            ok: true,
-            node: Node { state, own },
-        }
-    } else {
-        no_image()
-    }
+    Node { state, own }
 }

@@ -1,7 +1,6 @@
 // node-run: answers the requests on standard input, each with a line on standard output. What a request comes to and what its line says is
 // requests::take_step and requests::put_line; here is only what reads and writes.
-ghost use Prim.Native.Nat.{_+_, _≤_};
-ghost use mathlib.Core.Path.{_≡_};
+ghost use Prim.Native.Nat.{_≤_};
 ghost use lib.ListN.{length};
 ghost use Rattle.node_run.specs.Fits.{Fits};
 use libc::STDIN_FILENO;

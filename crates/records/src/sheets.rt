@@ -1,5 +1,6 @@
 // Reading a sheet where its bytes lie: row i starts at index 7 + 5 i.
 use binary::is_record;
+use binary::size;
 use binary::u32_at;
 use state::Seat;
 ghost use mathlib.Core.Path.{_≡_};
@@ -11,13 +12,6 @@ ghost use Rattle.lists.specs.Fold.{all, count};
 ghost use Rattle.state.specs.Seats.{seatAt};
 ghost use Rattle.binary.specs.Number.{byteAt};
 ghost use Rattle.records.specs.Sheet.{rowsOf, isSheet, counts, countedSeats};
-
-// A byte as an index.
-fn size(x: u8) -> usize
-    ensures { λ r. ⌜ r ≡ x ⌝ }
-{
-    x as usize
-}
 
 // The seat of every row is below 32.
 fn are_rows(b: &[u8]) -> bool

@@ -1,18 +1,18 @@
--- Lines: decimal digits stored from the last one on, bytes copied into a slice, writes one after the other; bytes moved to the front.
+-- Lines: decimal digits stored from the last one on, writes one after the other; bytes moved to the front.
 use Prim.Native.Nat.{ℕ, zero, suc, _+_, _-_, _/_, _%_, _≤_, _<_}
 use native.Mathlib.Omega.{arith}
 use native.Mathlib.Nat.{le-of-eq, zero-add}
-use native.Mathlib.Numerals.{add-one}
 use mathlib.Core.Path.{_≡_, refl, sym, ap, subst, _∙_}
 use mathlib.Core.Bool.{true, false, _&&_, and-eq-true-iff}
 use mathlib.Core.List.{List, [], _∷_, _++_, append-assoc, append-nil}
 use lib.Dec.{ltb, leb}
 use lib.ListN.{length, set, getD, take, drop, length-set, length-append, length-drop, drop-of-length-le}
-use lib.Seq.{paste, paste-zero, paste-suc, take-length, drop-at, set-split, length-take-le, drop-paste, getD-drop, getD-take}
+use lib.Seq.{paste, drop-at, set-split, length-take-le, drop-paste, getD-drop, getD-take}
 use borrow.Author.Tests.{ltb-true, ltb-false, leb-true, le-ltb, le-leb}
 use Rattle.lists.proofs.Tests.{cond-cases}
 use Rattle.binary.specs.Number.{overwrite}
 use Rattle.binary.specs.Splice.{splice}
+use Rattle.binary.proofs.Copies.{Copied, copied-one, copied-all}
 use Rattle.binary.proofs.Splices.{Wrote, next-put, all-put, splice-overwrite}
 use Rattle.requests.specs.declared.Answer.{Answer}
 use Rattle.requests.specs.declared.Answer.the-variants.{Started, Voted, Done, Open, No}
@@ -38,28 +38,6 @@ last-one k x f =
 -- the first digit is stored
 pub last-digit : (k x : ℕ) (l : List ℕ) → k < length l → (10 ≤ x → k ≡ 0) → digits (suc k) x ++ drop (suc k) l ≡ drop k (set l k (48 + x % 10))
 last-digit k x l h f = rw (last-one k x f, from-stored l k (48 + x % 10) h) refl
-
--- the bytes of v before index i are copied to d₀ from index `at` on, which gives d
-pub record Copied (d₀ : List ℕ) (at : ℕ) (v : List ℕ) (i : ℕ) (d : List ℕ) : Type 0 where
-  pub within : i ≤ length v
-  pub same-length : length d ≡ length d₀
-  pub copied : d ≡ paste d₀ at v i
-
-pub copied-none : (d : List ℕ) (at : ℕ) (v : List ℕ) → Copied d at v 0 d
-copied-none d at v = record { within = omega arith; same-length = refl; copied = paste-zero d at v }
-
-pub copied-one : (d₀ : List ℕ) (at : ℕ) (v : List ℕ) (i : ℕ) (d : List ℕ) → Copied d₀ at v i d → at + length v ≤ length d₀ → i < length v → Copied d₀ at v (i + 1) (set d (at + i) (getD v i 0))
-copied-one d₀ at v i d h room k = record {
-  within = omega arith;
-  same-length = length-set d (at + i) (getD v i 0) ∙ h .same-length;
-  copied = ap (λ (l : List ℕ). set l (at + i) (getD v i 0)) (h .copied) ∙ paste-suc d₀ at v i 0 (omega arith) k ∙ ap (paste d₀ at v) (sym (add-one i));
-}
-
-pub copied-all : (d₀ : List ℕ) (at : ℕ) (v : List ℕ) (i : ℕ) (d : List ℕ) → Copied d₀ at v i d → length v ≤ i → d ≡ splice d₀ at v
-unfolding splice
-copied-all d₀ at v i d h k =
-    let e : i ≡ length v = omega (arith, h .within) in
-    h .copied ∙ ap (paste d₀ at v) e ∙ rw (take-length v) (append-assoc (take at d₀) v (drop (at + length v) d₀))
 
 -- the digits of x from index `from` up to the end stand in l, and those of `rest` are still to be stored in front of them
 pub record Stored (x from rest : ℕ) (l : List ℕ) : Type 0 where

@@ -1,12 +1,12 @@
 // The line of an answer.
 ghost use mathlib.Core.Path.{_≡_};
-ghost use mathlib.Core.List.{[], _∷_, _++_};
 ghost use Prim.Native.Nat.{_+_, _≤_};
 ghost use lib.ListN.{length, drop};
 ghost use Rattle.binary.specs.Splice.{splice};
 ghost use Rattle.requests.specs.declared.Answer.the-variants.{No};
 ghost use Rattle.requests.specs.Lines.{decimal, wordOf, lineOf};
 use crate::Answer;
+use binary::put_bytes;
 
 // Decimal digits, from an index up to the end.
 struct Digits {
@@ -31,20 +31,6 @@ fn digits_of(x: u32) -> Digits
         bytes: bytes,
         from: from,
     }
-}
-
-// Writes bytes at a position, and answers where they end.
-fn put_bytes(out: &mut [u8], at: usize, bytes: &[u8]) -> usize
-    requires { ⌜ at + length (now bytes) ≤ length (now out) ⌝ }
-    ensures { λ r. ⌜ r ≡ at + length (now (bytes .entry)) ⌝ }
-    ensures { λ _. ⌜ now (out .exit) ≡ splice (now (out .entry)) at (now (bytes .entry)) ⌝ }
-{
-    let mut i: usize = 0;
-    while i < bytes.len() {
-        out[at + i] = bytes[i];
-        i += 1;
-    }
-    at + bytes.len()
 }
 
 // Writes a number in decimal at a position, and answers where it ends.

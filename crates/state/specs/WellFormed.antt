@@ -21,18 +21,44 @@ use Rattle.state.specs.Logins.{isLogin}
 abbrev pub isWellFormedSeat : Seat → Bool
 isWellFormedSeat x = cond (eqb (x .standing) free) (eqb (x .life) 0) (leb (x .standing) retired && leb 1 (x .life))
 
--- a row of a state of this cycle and agreed day; "Unused rows are zero."
+-- a used row of a state of this cycle and agreed day: "below the cycle, day at most the agreed day, arguments well formed"
+abbrev pub isIntended : Cycle → Day → Proposal → Bool
+isIntended c d r = isBeforeCycle (r .cycle) c && (not (isBeforeDay d (r .day)) && isSubject (r .kind) (r .arguments))
+
+-- "Unused rows are zero.": what is left of a row of kind 0
+abbrev pub isBlankProposal : Proposal → Bool
+isBlankProposal r = eqb (r .cycle .0) 0 && (eqb (r .day .0) 0 && eqb (r .arguments) 0)
+
+-- a used row that is well formed, and an unused one
+abbrev pub isPending : Cycle → Day → Proposal → Bool
+isPending c d r = isProposal r && isIntended c d r
+
+abbrev pub isZeroProposal : Proposal → Bool
+isZeroProposal r = not (isProposal r) && isBlankProposal r
+
 abbrev pub isWellFormedProposal : Cycle → Day → Proposal → Bool
-isWellFormedProposal c d r =
-    cond (isProposal r)
-    (isBeforeCycle (r .cycle) c && (not (isBeforeDay d (r .day)) && isSubject (r .kind) (r .arguments)))
-    (eqb (r .cycle .0) 0 && (eqb (r .day .0) 0 && eqb (r .arguments) 0))
+isWellFormedProposal c d r = cond (isProposal r) (isIntended c d r) (isBlankProposal r)
 
 unfoldable pub areWellFormedProposals : Cycle → Day → List Proposal → Bool
 areWellFormedProposals c d rows = risingFrom isProposal (λ r. r .cycle .0) 0 rows && all (isWellFormedProposal c d) rows
 
+-- a used row: "rights not zero"
+abbrev pub hasRights : Login → Bool
+hasRights r = leb 1 (r .rights)
+
+-- what is left of a row of login 0
+abbrev pub isBlankLogin : Login → Bool
+isBlankLogin r = eqb (r .end .0) 0 && eqb (r .rights) 0
+
+-- a used row that is well formed, and an unused one
+abbrev pub isGranted : Login → Bool
+isGranted r = isLogin r && hasRights r
+
+abbrev pub isZeroLogin : Login → Bool
+isZeroLogin r = not (isLogin r) && isBlankLogin r
+
 abbrev pub isWellFormedLogin : Login → Bool
-isWellFormedLogin r = cond (isLogin r) (leb 1 (r .rights)) (eqb (r .end .0) 0 && eqb (r .rights) 0)
+isWellFormedLogin r = cond (isLogin r) (hasRights r) (isBlankLogin r)
 
 unfoldable pub areWellFormedLogins : List Login → Bool
 areWellFormedLogins rows = risingFrom isLogin (λ r. r .login) 1 rows && all isWellFormedLogin rows

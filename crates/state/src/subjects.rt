@@ -29,8 +29,12 @@ fn is_remove(a: u64) -> bool
 pub fn is_subject(kind: u16, arguments: u64) -> bool
     ensures { λ r. ⌜ r ≡ isSubject kind arguments ⌝ }
 {
-    ((kind == 4) & is_certify(arguments))
-        | (((kind == 5) & is_minima(arguments)) | ((kind == 6) & is_remove(arguments)))
+    match kind {
+        4 => is_certify(arguments),
+        5 => is_minima(arguments),
+        6 => is_remove(arguments),
+        _ => false,
+    }
 }
 
 pub fn certify_arguments(seat: u8, life: u32) -> u64

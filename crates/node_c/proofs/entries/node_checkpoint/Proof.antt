@@ -1,10 +1,22 @@
+use native.Mathlib.Omega.{arith}
+use mathlib.Core.Bool.{true}
+use mathlib.Core.Path.{_≡_, sym, _∙_}
+use denote.Ref.{now}
 use Rattle.node_c.specs.Calls.{nodeCheckpoint}
+use Rattle.node_c.specs.Image.{isImage, readImage}
+use Rattle.node_c.proofs.Image.{image-size}
 use borrow.Author.Needs.{needs}
 use Rattle.node_c.proofs.entries.node_checkpoint.Statement.{statement}
 use Rattle.node_c.proofs.entries.node_checkpoint.Tie as tie
 
-read-image-requires : tie.Need-read-image-requires
-read-image-requires c κs = search needs
+accepted : (c : tie.Then1) → isImage (now (c .before .before .before .before .args .image)) ≡ true
+accepted c = sym (c .before .is-image .ensures) ∙ c .if1 .taken
+
+is-image-requires : tie.Need-is-image-requires
+is-image-requires c κs = search needs
+
+node-in-requires : tie.Need-node-in-requires
+node-in-requires c κs = omega (arith, image-size _ (accepted c))
 
 checkpoint-requires : tie.Need-checkpoint-requires
 checkpoint-requires c κs = search needs
@@ -16,18 +28,23 @@ same-length : tie.Need-same-length
 same-length c = search needs
 
 returns : tie.Need-returns
-unfolding nodeCheckpoint
-returns c = (rw (c .checkpoint-number .ensures, c .before .before .before .checkpoint .ensures .0, ← c .before .before .before .before .before .before .before .read-image .ensures, c .before .before .before .before .before .before .if1 .taken), rw (c .before .before .before .checkpoint .ensures .1, ← c .before .before .before .before .before .before .before .read-image .ensures, c .before .before .before .before .before .before .if1 .taken))
+unfolding nodeCheckpoint readImage
+returns c =
+    let k = c .before .before .before in
+    let n = k .before .before in
+    let e = accepted (n .before) in
+    (rw (e, ← n .node-in .ensures, ← k .checkpoint .ensures .0) (c .checkpoint-number .ensures), rw (e, ← n .node-in .ensures) (k .checkpoint .ensures .1))
 
 returns-2 : tie.Need-returns-2
-unfolding nodeCheckpoint
-returns-2 c = (rw (← c .before .read-image .ensures, c .if1 .left), rw (← c .before .read-image .ensures, c .if1 .left))
+unfolding nodeCheckpoint readImage
+returns-2 c = let e = sym (c .before .is-image .ensures) ∙ c .if1 .left in (rw e, rw e)
 
 pub node-checkpoint-spec : {M : Type 1} → statement M
 node-checkpoint-spec =
     tie.close
     (tie.spec
-    read-image-requires
+    is-image-requires
+    node-in-requires
     checkpoint-requires
     checkpoint-number-requires
     same-length

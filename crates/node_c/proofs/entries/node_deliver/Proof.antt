@@ -1,10 +1,38 @@
+use native.Mathlib.Omega.{arith}
+use mathlib.Core.Bool.{true}
+use mathlib.Core.Path.{_≡_, sym, _∙_}
+use denote.Ref.{now}
+use lib.ListN.{take}
+use Rattle.checkpoint.specs.Claims.{ReadState}
+use Rattle.node.proofs.Deliver.{deliver-keeps-state}
 use Rattle.node_c.specs.Calls.{nodeDeliver, onImage}
+use Rattle.node_c.specs.Image.{isImage, readImage}
+use Rattle.node_c.proofs.Image.{image-size, image-state}
+use Rattle.node_c.proofs.Kept.{handed-on, on-image}
 use borrow.Author.Needs.{needs}
 use Rattle.node_c.proofs.entries.node_deliver.Statement.{statement}
 use Rattle.node_c.proofs.entries.node_deliver.Tie as tie
 
-read-image-requires : tie.Need-read-image-requires
-read-image-requires c κs = search needs
+accepted : (c : tie.Then1) → isImage (now (c .before .before .before .before .before .before .args .image)) ≡ true
+accepted c = sym (c .before .is-image .ensures) ∙ c .if1 .taken
+
+-- The state that is handed back with another number than 0 is the one in the image's bytes.
+kept : (c : tie.Else2) → let d = c .before .before .before in
+    ReadState (take 1108 (now (d .before .before .before .before .before .before .before .before .args .image))) (d .deliver .result .node .state)
+kept c =
+    let k = c .before in
+    let d = k .before .before in
+    let n = d .before in
+    let b = n .before .before .before .before .before .before in
+    let r = image-state (now (b .before .args .image)) (λ i. omega (arith, b .shared-slice-known .given i)) (accepted (n .before)) in
+    let z = rw (k .deliver-number .ensures, d .deliver .ensures) at (c .if2 .left) in
+    rw (d .deliver .ensures, deliver-keeps-state _ _ _ z, n .node-in .ensures) r
+
+is-image-requires : tie.Need-is-image-requires
+is-image-requires c κs = search needs
+
+node-in-requires : tie.Need-node-in-requires
+node-in-requires c κs = omega (arith, image-size _ (accepted c))
 
 deliver-requires : tie.Need-deliver-requires
 deliver-requires c κs = search needs
@@ -19,21 +47,55 @@ same-length : tie.Need-same-length
 same-length c = search needs
 
 returns : tie.Need-returns
-unfolding nodeDeliver onImage
-returns c = rw (← c .before .before .before .before .before .before .before .before .before .read-image .ensures, c .before .before .before .before .before .before .before .before .if1 .taken, ← c .before .before .before .before .before .before .deliver .ensures, ← c .before .before .before .before .deliver-number .ensures) (c .before .before .hand-out .ensures)
+unfolding nodeDeliver
+returns c =
+    let t = c .before .before .before .before in
+    let k = t .before in
+    let d = k .before .before in
+    rw (on-image _ _ _ (accepted (d .before .before)), ← d .before .node-in .ensures, ← d .deliver .ensures, ← k .deliver-number .ensures, t .if2 .taken) (c .before .before .hand-out .ensures)
+
+sub-hand-on : tie.Need-sub-hand-on
+sub-hand-on c = search needs
+
+part-hand-on-start : tie.Need-part-hand-on-start
+part-hand-on-start c = search needs
+
+part-hand-on-end : tie.Need-part-hand-on-end
+part-hand-on-end c = omega (arith, image-size _ (accepted (c .before .before .before .before .before)))
+
+hand-on-requires : tie.Need-hand-on-requires
+hand-on-requires c κs = search needs
+
+same-length-2 : tie.Need-same-length-2
+same-length-2 c = search needs
 
 returns-2 : tie.Need-returns-2
-unfolding nodeDeliver onImage
-returns-2 c = (rw (← c .before .read-image .ensures, c .if1 .left), rw (← c .before .read-image .ensures, c .if1 .left))
+unfolding nodeDeliver
+returns-2 c =
+    let t = c .before .before .before .before .before in
+    let k = t .before in
+    let d = k .before .before in
+    rw (on-image _ _ _ (accepted (d .before .before)), ← d .before .node-in .ensures, ← d .deliver .ensures, ← k .deliver-number .ensures) (handed-on _ _ _ (λ _. kept t) _ _ (c .before .before .hand-on .ensures))
+
+returns-3 : tie.Need-returns-3
+unfolding nodeDeliver onImage readImage
+returns-3 c = let e = sym (c .before .is-image .ensures) ∙ c .if1 .left in (rw e, rw e)
 
 pub node-deliver-spec : {M : Type 1} → statement M
 node-deliver-spec =
     tie.close
     (tie.spec
-    read-image-requires
+    is-image-requires
+    node-in-requires
     deliver-requires
     deliver-number-requires
     hand-out-requires
     same-length
     returns
-    returns-2)
+    sub-hand-on
+    part-hand-on-start
+    part-hand-on-end
+    hand-on-requires
+    same-length-2
+    returns-2
+    returns-3)

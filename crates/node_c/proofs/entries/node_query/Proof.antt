@@ -1,39 +1,79 @@
+use native.Mathlib.Omega.{arith}
+use mathlib.Core.Bool.{true}
+use mathlib.Core.Path.{_≡_, sym, _∙_}
+use denote.Ref.{now}
+use lib.ListN.{take}
+use Rattle.checkpoint.specs.Claims.{ReadState}
+use Rattle.node.proofs.Query.{query-keeps-state}
 use Rattle.node_c.specs.Calls.{nodeQuery, onImage}
+use Rattle.node_c.specs.Image.{isImage, readImage}
+use Rattle.node_c.proofs.Image.{image-size, image-state}
+use Rattle.node_c.proofs.Kept.{handed-on, on-image}
 use borrow.Author.Needs.{needs}
 use Rattle.node_c.proofs.entries.node_query.Statement.{statement}
 use Rattle.node_c.proofs.entries.node_query.Tie as tie
 
-read-image-requires : tie.Need-read-image-requires
-read-image-requires c κs = search needs
+accepted : (c : tie.Then1) → isImage (now (c .before .before .before .before .before .args .image)) ≡ true
+accepted c = sym (c .before .is-image .ensures) ∙ c .if1 .taken
+
+-- The state that is handed back is the one in the image's bytes.
+kept : (c : tie.After-query) → ReadState (take 1108 (now (c .before .before .before .before .before .before .before .args .image))) (c .query .result .node .state)
+kept c =
+    let n = c .before in
+    let b = n .before .before .before .before .before in
+    let r = image-state (now (b .before .args .image)) (λ i. omega (arith, b .shared-slice-known .given i)) (accepted (n .before)) in
+    rw (c .query .ensures, query-keeps-state, n .node-in .ensures) r
+
+is-image-requires : tie.Need-is-image-requires
+is-image-requires c κs = search needs
+
+node-in-requires : tie.Need-node-in-requires
+node-in-requires c κs = omega (arith, image-size _ (accepted c))
 
 query-requires : tie.Need-query-requires
 query-requires c κs = search needs
 
+sub-hand-on : tie.Need-sub-hand-on
+sub-hand-on c = search needs
+
+part-hand-on-start : tie.Need-part-hand-on-start
+part-hand-on-start c = search needs
+
+part-hand-on-end : tie.Need-part-hand-on-end
+part-hand-on-end c = omega (arith, image-size _ (accepted (c .before .before .before)))
+
 query-number-requires : tie.Need-query-number-requires
 query-number-requires c κs = search needs
 
-hand-out-requires : tie.Need-hand-out-requires
-hand-out-requires c κs = search needs
+hand-on-requires : tie.Need-hand-on-requires
+hand-on-requires c κs = search needs
 
 same-length : tie.Need-same-length
 same-length c = search needs
 
 returns : tie.Need-returns
-unfolding nodeQuery onImage
-returns c = rw (← c .before .before .before .before .before .before .before .before .before .read-image .ensures, c .before .before .before .before .before .before .before .before .if1 .taken, ← c .before .before .before .before .before .before .query .ensures, ← c .before .before .before .before .query-number .ensures) (c .before .before .hand-out .ensures)
+unfolding nodeQuery
+returns c =
+    let k = c .before .before .before .before in
+    let q = k .before .before .before in
+    rw (on-image _ _ _ (accepted (q .before .before)), ← q .before .node-in .ensures, ← q .query .ensures, ← k .query-number .ensures) (handed-on _ _ _ (λ _. kept q) _ _ (c .before .before .hand-on .ensures))
 
 returns-2 : tie.Need-returns-2
-unfolding nodeQuery onImage
-returns-2 c = (rw (← c .before .read-image .ensures, c .if1 .left), rw (← c .before .read-image .ensures, c .if1 .left))
+unfolding nodeQuery onImage readImage
+returns-2 c = let e = sym (c .before .is-image .ensures) ∙ c .if1 .left in (rw e, rw e)
 
 pub node-query-spec : {M : Type 1} → statement M
 node-query-spec =
     tie.close
     (tie.spec
-    read-image-requires
+    is-image-requires
+    node-in-requires
     query-requires
+    sub-hand-on
+    part-hand-on-start
+    part-hand-on-end
     query-number-requires
-    hand-out-requires
+    hand-on-requires
     same-length
     returns
     returns-2)

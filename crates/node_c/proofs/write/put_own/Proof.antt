@@ -1,14 +1,17 @@
-use mathlib.Core.Path.{_≡_, refl}
+use native.Mathlib.Omega.{arith}
 use mathlib.Core.Bool.{cond}
 use mathlib.Core.List.{[], _∷_}
-use native.Mathlib.Omega.{arith}
+use mathlib.Core.Path.{_≡_, refl, sym, ap, _∙_}
 use denote.Ref.{now}
 use lib.ListN.{length}
-use Rattle.binary.specs.Number.{toBytes}
-use Rattle.binary.specs.Codec.{byte, encodeRows}
+use lib.Seq.{take-all}
 use Rattle.binary.proofs.Number.{number-length}
-use Rattle.binary.proofs.Splices.{first-put, next-put, all-put, lefts-rights}
 use Rattle.binary.proofs.Rows.{rows-size}
+use Rattle.binary.proofs.Splices.{first-put, next-put, all-put, lefts-rights}
+use Rattle.binary.specs.Codec.{byte, encodeRows}
+use Rattle.binary.specs.Number.{toBytes}
+use Rattle.binary.specs.Splice.{splice}
+use Rattle.node_c.proofs.Parts.{bytes-written}
 use borrow.Author.Needs.{needs}
 use Rattle.node_c.proofs.write.put_own.Statement.{statement}
 use Rattle.node_c.proofs.write.put_own.Tie as tie
@@ -29,8 +32,17 @@ flag-byte-requires c κs = search needs
 put-u8-requires-2 : tie.Need-put-u8-requires-2
 put-u8-requires-2 c κs = search needs
 
-put-vote-requires : tie.Need-put-vote-requires
-put-vote-requires c κs = search needs
+sub-put-bytes : tie.Need-sub-put-bytes
+sub-put-bytes c = search needs
+
+part-put-bytes-start : tie.Need-part-put-bytes-start
+part-put-bytes-start c = search needs
+
+part-put-bytes-end : tie.Need-part-put-bytes-end
+part-put-bytes-end c = let z = c .before .before .before .before .before .before .before .before .before .before .before .before .before .before .before .before .before in omega (arith, vote-size z)
+
+put-bytes-requires : tie.Need-put-bytes-requires
+put-bytes-requires c κs = search needs
 
 put-u8-requires-3 : tie.Need-put-u8-requires-3
 put-u8-requires-3 c κs = search needs
@@ -42,16 +54,18 @@ returns : tie.Need-returns
 returns c =
     let m = c .before .before in
     let v = m .before .before .before .before in
-    let f = v .before .before .before .before in
+    let f = v .before .before .before .before .before .before in
     let l = f .before .before .before .before .before in
     let s = l .before .before .before .before in
     let z = s .before .before .before .before in
     let o = z .args .own in
     let d = now (z .args .out) in
+    let y = vote-size z in
+    let e = v .put-bytes .ensures .1 ∙ ap (splice _ 1114) (take-all 24 (o .vote) (omega arith) ∙ sym (bytes-written (o .vote))) in
     let w₁ = first-put d _ _ 1108 1 (s .put-u8 .ensures) refl in
     let w₂ = next-put d _ _ _ _ 1108 1109 4 w₁ (l .put-u32 .ensures) (number-length 4 _) (omega arith) in
     let w₃ = next-put d _ _ _ _ 1108 1113 1 w₂ (f .put-u82 .ensures) refl (omega arith) in
-    let w₄ = next-put d _ _ _ _ 1108 1114 24 w₃ (v .put-vote .ensures) (rows-size byte (λ x. refl) 24 (o .vote) (vote-size z)) (omega arith) in
+    let w₄ = next-put d _ _ _ _ 1108 1114 24 w₃ e (rows-size byte (λ x. refl) 24 (o .vote) y) (omega arith) in
     let w₅ = next-put d _ _ _ _ 1108 1138 1 w₄ (m .put-u83 .ensures) refl (omega arith) in
     all-put d _ _ _ 1108 1139 w₅ (rw (f .before .flag-byte .ensures) (lefts-rights (o .seat ∷ []) (toBytes 4 (o .life) ∷ (cond (o .voted) 1 0 ∷ []) ∷ encodeRows byte (o .vote) ∷ (o .misses ∷ []) ∷ [])))
 
@@ -63,7 +77,10 @@ put-own-spec =
     put-u32-requires
     flag-byte-requires
     put-u8-requires-2
-    put-vote-requires
+    sub-put-bytes
+    part-put-bytes-start
+    part-put-bytes-end
+    put-bytes-requires
     put-u8-requires-3
     same-length
     returns)

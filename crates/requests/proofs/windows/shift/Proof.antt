@@ -1,4 +1,5 @@
-use Rattle.requests.proofs.Writing.{Copied, copied-none, moved-one, moved-all}
+use Rattle.binary.proofs.Copies.{Copied, copied-none}
+use Rattle.requests.proofs.Writing.{moved-one, moved-all}
 use lib.ListN.{length, take, drop}
 use mathlib.Core.Path.{_≡_, refl}
 use Prim.Native.Nat.{_+_, _-_, _≤_}

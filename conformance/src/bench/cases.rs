@@ -1,0 +1,150 @@
+//! The measured calls, on a full state and on a small one.
+
+use crate::history::call::{Records, VOTED};
+use crate::history::records;
+use crate::history::view::{Login, Own, Proposal, Seat, View, FREE, PRESENT};
+
+pub struct Case {
+    pub name: &'static str,
+    pub image: Vec<u8>,
+    pub records: Records,
+    /// What the call answers.
+    pub number: u32,
+}
+
+const CYCLE: u32 = 1_000;
+const DAY: u32 = 20_000;
+const LIFE: u32 = 7;
+
+/// How much of the tables is used, and the rows of a sheet with a quorum.
+pub struct Size {
+    pub name: &'static str,
+    seats: u8,
+    margin: u8,
+    proposals: u8,
+    logins: u32,
+    rows: u8,
+}
+
+pub const FULL: Size = Size {
+    name: "full",
+    seats: 32,
+    margin: 2,
+    proposals: 16,
+    logins: 64,
+    rows: 64,
+};
+
+pub const SMALL: Size = Size {
+    name: "small",
+    seats: 3,
+    margin: 0,
+    proposals: 1,
+    logins: 2,
+    rows: 2,
+};
+
+impl Size {
+    fn view(&self) -> View {
+        View {
+            cycle: CYCLE,
+            day: DAY,
+            levels: [8, 8],
+            margin: self.margin,
+            least: 2,
+            silence: 30,
+            seats: std::array::from_fn(|i| seat(i < self.seats.into())),
+            proposals: (0..self.proposals).map(proposal).collect(),
+            logins: (1..=self.logins).map(login).collect(),
+        }
+    }
+
+    /// The calls, each as often as it has another way to end.
+    pub fn cases(&self) -> Vec<Case> {
+        let remove = announcement(6, [self.proposals - 1, 0, 0, 0, 0, 0, 0, 0, 0, 0, 0, 0]);
+        let grant = announcement(8, records::grant(500 * self.logins, DAY + 200, 3));
+        let end = announcement(9, records::arguments(&500u32.to_le_bytes()));
+        let late = announcement(9, records::arguments(&1u32.to_le_bytes()));
+        let start = Records::Start {
+            checkpoint: self.view().write(),
+            start: records::start(0, LIFE),
+        };
+        vec![
+            self.case("start", start, 0),
+            self.case("deliver: remove done", self.deliver(&remove, self.rows), 0),
+            self.case("deliver: grant done", self.deliver(&grant, self.rows), 0),
+            self.case("deliver: end done", self.deliver(&end, self.rows), 0),
+            self.case("deliver: grant voted", self.deliver(&grant, 0), VOTED),
+            self.case("deliver: end no 13", self.deliver(&late, self.rows), 13),
+            self.case("query: open", query(500 * self.logins, DAY), 0),
+            self.case("query: no 19", query(7, DAY), 19),
+            self.case("query: no 18", query(500, DAY + 31), 18),
+            self.case("checkpoint", Records::Checkpoint, 0),
+        ]
+    }
+
+    fn case(&self, name: &'static str, records: Records, number: u32) -> Case {
+        let own = Own {
+            seat: 0,
+            life: LIFE,
+            vote: None,
+            misses: 3,
+        };
+        let image = own.image(&self.view());
+        Case {
+            name,
+            image,
+            records,
+            number,
+        }
+    }
+
+    fn deliver(&self, announcement: &[u8], rows: u8) -> Records {
+        let rows: Vec<(u8, u32)> = (0..rows).map(|i| (i % self.seats, LIFE)).collect();
+        Records::Deliver {
+            announcement: announcement.to_vec(),
+            sheet: records::sheet([255, 255], &rows),
+        }
+    }
+}
+
+fn seat(present: bool) -> Seat {
+    match present {
+        true => Seat {
+            standing: PRESENT,
+            life: LIFE,
+        },
+        false => Seat {
+            standing: FREE,
+            life: 0,
+        },
+    }
+}
+
+/// A proposal to remove a seat, announced in good time.
+fn proposal(i: u8) -> Proposal {
+    Proposal {
+        cycle: 900 + u32::from(i),
+        day: DAY - 20,
+        kind: 6,
+        arguments: [i, 0, 0, 0, 0, 0, 0, 0],
+    }
+}
+
+fn login(i: u32) -> Login {
+    Login {
+        login: 500 * i,
+        end: DAY + 100,
+        rights: 1,
+    }
+}
+
+fn announcement(kind: u16, arguments: [u8; 12]) -> Vec<u8> {
+    records::announcement(kind, CYCLE, DAY, arguments)
+}
+
+fn query(login: u32, day: u32) -> Records {
+    Records::Query {
+        query: records::query(login, day, 0),
+    }
+}

@@ -1,0 +1,43 @@
+//! Time per call.
+
+use super::cases::Case;
+use crate::calls::Calls;
+use std::hint::black_box;
+use std::time::Instant;
+
+const ROUNDS: usize = 200;
+const CALLS_PER_ROUND: u32 = 500;
+
+/// The least ns per call of each subject. A round measures all of them, one after the other, so that
+/// what else the machine does meets all alike.
+pub fn least<const N: usize>(mut subjects: [&mut dyn FnMut(); N]) -> [f64; N] {
+    let mut least = [f64::INFINITY; N];
+    for _ in 0..ROUNDS {
+        for (subject, least) in subjects.iter_mut().zip(&mut least) {
+            *least = least.min(round(subject));
+        }
+    }
+    least
+}
+
+fn round(subject: &mut dyn FnMut()) -> f64 {
+    let begin = Instant::now();
+    for _ in 0..CALLS_PER_ROUND {
+        subject();
+    }
+    begin.elapsed().as_secs_f64() * 1e9 / f64::from(CALLS_PER_ROUND)
+}
+
+/// The case once through the calls, its output slice not cleared. Panics where the answer is another.
+pub fn make(calls: &Calls, case: &Case, out: &mut [u8]) {
+    let number = calls.make(black_box(&case.image), black_box(&case.records), out);
+    assert_eq!(number, case.number, "{} by {}", case.name, calls.name);
+    black_box(out);
+}
+
+/// An image copied in and out again: what no call that writes one can undercut by much.
+pub fn copy(image: &[u8], between: &mut [u8], out: &mut [u8]) {
+    between.copy_from_slice(black_box(image));
+    out.copy_from_slice(black_box(between));
+    black_box(out);
+}

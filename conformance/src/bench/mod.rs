@@ -1,0 +1,4 @@
+//! How long each call takes, by each implementation.
+
+pub mod cases;
+pub mod measure;

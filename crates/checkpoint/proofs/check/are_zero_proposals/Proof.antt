@@ -1,0 +1,82 @@
+use Prim.Native.Nat.{_-_, _≤_, _<_}
+use mathlib.Core.Path.{_≡_, refl, sym, _∙_}
+use denote.Ref.{now}
+use lib.ListN.{length, drop}
+use Rattle.lists.specs.Fold.{all}
+use Rattle.lists.proofs.Loops.{all-pass, all-fail, all-end}
+use Rattle.binary.proofs.Rows.{row-test, length-decodeRows}
+use Rattle.state.specs.Proposals.{noProposal}
+use Rattle.state.specs.WellFormed.{isZeroProposal}
+use Rattle.checkpoint.specs.Format.{proposal}
+use Rattle.checkpoint.specs.Parts.{proposalsIn}
+use borrow.Author.Needs.{needs}
+use Rattle.checkpoint.proofs.check.are_zero_proposals.Statement.{statement}
+use Rattle.checkpoint.proofs.check.are_zero_proposals.Tie as tie
+
+abbrev Inv-loop : tie.InvT-loop
+Inv-loop b from i₀ i = (i ≤ 16) × (all isZeroProposal (drop from (proposalsIn b)) ≡ all isZeroProposal (drop i (proposalsIn b)))
+
+abbrev μ-loop : tie.MeasureT-loop
+μ-loop b from i₀ i = 16 - i
+
+loop-holds : tie.Need-loop-holds Inv-loop μ-loop
+loop-holds c = (search needs, refl)
+
+mul-proposal-at : tie.Need-mul-proposal-at Inv-loop μ-loop
+mul-proposal-at c = search needs
+
+add-proposal-at : tie.Need-add-proposal-at Inv-loop μ-loop
+add-proposal-at c = search needs
+
+proposal-at-requires : tie.Need-proposal-at-requires Inv-loop μ-loop
+proposal-at-requires c κs = search needs
+
+is-zero-requires : tie.Need-is-zero-requires Inv-loop μ-loop
+is-zero-requires c κs = search needs
+
+add-i : tie.Need-add-i Inv-loop μ-loop
+add-i c = search needs
+
+loop-less : tie.Need-loop-less Inv-loop μ-loop
+loop-less c = search needs
+
+loop-again : tie.Need-loop-again Inv-loop μ-loop
+loop-again c =
+    let l = c .before .before .before .before in
+    let b = now (l .before .before .args .b) in
+    let h = c .before .before .before .loop-test .taken in
+    let k : l .loop .i < length (proposalsIn b) = rw (length-decodeRows proposal 16) h in
+    let t = row-test proposal 16 b 179 (l .loop .i) noProposal isZeroProposal _ _ h (c .before .before .proposal-at .ensures) (c .before .is-zero .ensures) in
+    (search needs, l .loop .inv .1 ∙ all-pass isZeroProposal (proposalsIn b) (l .loop .i) noProposal k (t ∙ c .if1 .taken))
+
+returns : tie.Need-returns Inv-loop μ-loop
+returns c =
+    let l = c .before .before .before .before in
+    let b = now (l .before .before .args .b) in
+    let h = c .before .before .before .loop-test .taken in
+    let k : l .loop .i < length (proposalsIn b) = rw (length-decodeRows proposal 16) h in
+    let t = row-test proposal 16 b 179 (l .loop .i) noProposal isZeroProposal _ _ h (c .before .before .proposal-at .ensures) (c .before .is-zero .ensures) in
+    sym (l .loop .inv .1 ∙ all-fail isZeroProposal (proposalsIn b) (l .loop .i) noProposal k (t ∙ c .if1 .left))
+
+returns-2 : tie.Need-returns-2 Inv-loop μ-loop
+returns-2 c =
+    let b = now (c .before .before .before .args .b) in
+    let k : length (proposalsIn b) ≤ c .before .loop .i = rw (length-decodeRows proposal 16) (c .loop-test .left) in
+    sym (c .before .loop .inv .1 ∙ all-end isZeroProposal (proposalsIn b) (c .before .loop .i) k)
+
+pub are-zero-proposals-spec : {M : Type 1} → statement M
+are-zero-proposals-spec =
+    tie.close
+    (tie.spec
+    Inv-loop
+    μ-loop
+    loop-holds
+    mul-proposal-at
+    add-proposal-at
+    proposal-at-requires
+    is-zero-requires
+    add-i
+    loop-less
+    loop-again
+    returns
+    returns-2)

@@ -1,0 +1,94 @@
+use Prim.Native.Nat.{_+_, _-_, _≤_, _<_}
+use mathlib.Core.Path.{_≡_, sym, _∙_}
+use native.Mathlib.Omega.{arith}
+use denote.Ref.{now}
+use lib.ListN.{length, drop}
+use Rattle.lists.specs.Table.{leading}
+use Rattle.lists.proofs.Loops.{leading-pass, leading-fail, leading-end}
+use Rattle.binary.proofs.Rows.{row-at, length-decodeRows}
+use Rattle.state.specs.Logins.{noLogin}
+use Rattle.state.specs.WellFormed.{isGranted}
+use Rattle.checkpoint.specs.Format.{login}
+use Rattle.checkpoint.specs.Parts.{loginsIn}
+use borrow.Author.Needs.{needs}
+use Rattle.checkpoint.proofs.check.leading_logins.Statement.{statement}
+use Rattle.checkpoint.proofs.check.leading_logins.Tie as tie
+
+abbrev Inv-loop : tie.InvT-loop
+Inv-loop b lo₀ i₀ lo i = (i ≤ 64) × ((lo ≤ 4294967296) × (leading isGranted (λ x. x .login) 1 (loginsIn b) ≡ i + leading isGranted (λ x. x .login) lo (drop i (loginsIn b))))
+
+abbrev μ-loop : tie.MeasureT-loop
+μ-loop b lo₀ i₀ lo i = 64 - i
+
+loop-holds : tie.Need-loop-holds Inv-loop μ-loop
+loop-holds c = (omega arith, (omega arith, omega arith))
+
+mul-login-at : tie.Need-mul-login-at Inv-loop μ-loop
+mul-login-at c = search needs
+
+add-login-at : tie.Need-add-login-at Inv-loop μ-loop
+add-login-at c = search needs
+
+login-at-requires : tie.Need-login-at-requires Inv-loop μ-loop
+login-at-requires c κs = search needs
+
+cast-key : tie.Need-cast-key Inv-loop μ-loop
+cast-key c = search needs
+
+is-granted-requires : tie.Need-is-granted-requires Inv-loop μ-loop
+is-granted-requires c κs = search needs
+
+add-lo : tie.Need-add-lo Inv-loop μ-loop
+add-lo c = search needs
+
+add-i : tie.Need-add-i Inv-loop μ-loop
+add-i c = search needs
+
+loop-less : tie.Need-loop-less Inv-loop μ-loop
+loop-less c = search needs
+
+loop-again : tie.Need-loop-again Inv-loop μ-loop
+loop-again c =
+    let l = c .before .before .before .before .before in
+    let b = now (l .before .before .args .b) in
+    let h = c .before .before .before .before .loop-test .taken in
+    let k : l .loop .i < length (loginsIn b) = rw (length-decodeRows login 64) h in
+    let e = row-at login 64 b 468 (l .loop .i) noLogin h ∙ sym (c .before .before .before .login-at .ensures) in
+    let s = rw e at (leading-pass isGranted (λ r. r .login) (loginsIn b) (l .loop .i) (l .loop .lo) noLogin k) in
+    (omega arith, (search needs, omega (arith, s (rw (c .before .is-granted .ensures) at (c .if1 .taken)))))
+
+returns : tie.Need-returns Inv-loop μ-loop
+returns c =
+    let l = c .before .before .before .before .before in
+    let b = now (l .before .before .args .b) in
+    let h = c .before .before .before .before .loop-test .taken in
+    let k : l .loop .i < length (loginsIn b) = rw (length-decodeRows login 64) h in
+    let e = row-at login 64 b 468 (l .loop .i) noLogin h ∙ sym (c .before .before .before .login-at .ensures) in
+    let s = rw e at (leading-fail isGranted (λ r. r .login) (loginsIn b) (l .loop .i) (l .loop .lo) noLogin k) in
+    (omega (arith, s (rw (c .before .is-granted .ensures) at (c .if1 .left))), omega arith)
+
+returns-2 : tie.Need-returns-2 Inv-loop μ-loop
+returns-2 c =
+    let l = c .before in
+    let b = now (l .before .before .args .b) in
+    let k : length (loginsIn b) ≤ l .loop .i = rw (length-decodeRows login 64) (c .loop-test .left) in
+    (omega (arith, leading-end isGranted (λ r. r .login) (loginsIn b) (l .loop .i) (l .loop .lo) k), omega arith)
+
+pub leading-logins-spec : {M : Type 1} → statement M
+leading-logins-spec =
+    tie.close
+    (tie.spec
+    Inv-loop
+    μ-loop
+    loop-holds
+    mul-login-at
+    add-login-at
+    login-at-requires
+    cast-key
+    is-granted-requires
+    add-lo
+    add-i
+    loop-less
+    loop-again
+    returns
+    returns-2)

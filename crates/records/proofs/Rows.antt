@@ -1,9 +1,9 @@
 -- The rows of a sheet where they lie in its bytes: row i starts at index 7 + 5 i.
-use mathlib.Core.Path.{_≡_, refl, sym, ap, _∙_}
+use mathlib.Core.Path.{_≡_, refl, sym, _∙_}
 use mathlib.Core.Bool.{Bool, true, false, _&&_, _||_, and-eq-true-iff, and-false, or-false, and-or-distrib-left}
 use mathlib.Core.List.{List, _∷_}
-use Prim.Native.Nat.{ℕ, zero, suc, _+_, _*_, _≤_, _<_}
-use native.Mathlib.Nat.{add-zero, add-assoc, mul-zero, mul-suc, add-comm}
+use Prim.Native.Nat.{ℕ, _+_, _*_, _≤_, _<_}
+use native.Mathlib.Nat.{add-zero, add-assoc, mul-comm}
 use native.Mathlib.Numerals.{add-one}
 use native.Mathlib.Omega.{arith}
 use lib.Dec.{eqb, ltb}
@@ -14,24 +14,11 @@ use Rattle.lists.specs.Fold.{any}
 use Rattle.lists.proofs.Every.{all-of, all-getD}
 use Rattle.lists.proofs.Marks.{no-marks, mark}
 use Rattle.binary.specs.Number.{byteAt, field}
-use Rattle.binary.specs.Codec.{Codec, decodeRows}
+use Rattle.binary.proofs.Rows.{row-at, length-decodeRows}
 use Rattle.state.specs.declared.Seat.{Seat}
 use Rattle.state.specs.Seats.{isPresent, seatAt}
 use Rattle.records.specs.declared.Row.{Row}
 use Rattle.records.specs.Sheet.{row, rowsOf, isSheet, names, counts}
-
-module _ {A : Type 0} (f : Codec A) where
-  -- n rows are read, and row i is the one that starts after i rows
-  rows-number : (n : ℕ) (b : List ℕ) → length (decodeRows f n b) ≡ n
-  unfolding decodeRows
-  rows-number zero b = refl
-  rows-number (suc n) b = ap suc (rows-number n (drop (f .width) b))
-
-  rows-at : (n i : ℕ) (b : List ℕ) (d : A) → i < n → getD (decodeRows f n b) i d ≡ f .decode (drop (f .width * i) b)
-  unfolding decodeRows
-  rows-at zero i b d h = absurd (omega arith)
-  rows-at (suc n) zero b d h = rw mul-zero
-  rows-at (suc n) (suc i) b d h = rw (mul-suc, add-comm, ← drop-drop) (rows-at n i (drop (f .width) b) d (omega arith))
 
 -- the row for an index that the sheet does not have
 abbrev pub noRow : Row
@@ -40,11 +27,11 @@ noRow = record { seat = 0; life = 0 }
 module _ (b : List ℕ) where
   pub sheet-rows : length (rowsOf b) ≡ byteAt 6 b
   unfolding rowsOf
-  sheet-rows = rows-number row (byteAt 6 b) (drop 7 b)
+  sheet-rows = length-decodeRows row (byteAt 6 b) (drop 7 b)
 
   pub sheet-row : (i : ℕ) → i < byteAt 6 b → getD (rowsOf b) i noRow ≡ record { seat = byteAt (7 + 5 * i) b; life = field 4 (7 + 5 * i + 1) b }
   unfolding rowsOf
-  sheet-row i h = rows-at row (byteAt 6 b) i (drop 7 b) noRow h ∙ simp (drop-drop, getD-drop, add-zero, add-assoc)
+  sheet-row i h = row-at row (byteAt 6 b) b 7 i noRow h ∙ simp (drop-drop, getD-drop, add-zero, add-assoc, mul-comm i 5)
 
   -- What the test of a sheet tells.
   pub record Sheet : Type 0 where

@@ -14,11 +14,7 @@ use Rattle.records.specs.declared.Action.the-variants.{End}
 use Rattle.actions.specs.Perform.{perform}
 use Rattle.actions.specs.Claims.{Advances, IsGrantOf}
 use Rattle.actions.proofs.Perform.{end-drops, only-grant-adds}
-
--- `Step s a`: the announcement a is performed from s
-pub data Reached (first : State) (Step : State → Announcement → Type 0) : State → Type 0 where
-  origin : {s : State} → s ≡ first → Reached first Step s
-  next : {s : State} (r : State) (a : Announcement) → Reached first Step r → Step r a → s ≡ perform r a → Reached first Step s
+use Rattle.agreement.specs.Chain.{Reached, origin, next}
 
 -- an announcement that is performed from a state of a cycle above e and below c, and grants the login
 pub record GrantBetween (Step : State → Announcement → Type 0) (login e c : ℕ) : Type 0 where
@@ -85,6 +81,22 @@ module _ (first : State) (Step : State → Announcement → Type 0)
           let x = cycle-next t q b g f in
           let z : s ≡ t = agree S (next q b Q g f) (omega arith) in
           rw z (omega arith)
+
+  -- the chain of a state of a later cycle goes through what an announcement made of s
+  pub through : {s t : State} (a : Announcement) → Reach s → Step s a → Reach t → s .cycle .0 < t .cycle .0 → Reached (perform s a) Step t
+  through {s} {t} a S d (origin f) c =
+      let y = cycle-first t f in
+      let z = least-cycle S in
+      absurd (omega arith)
+  through {s} {t} a S d (next q b Q g f) c = go (λ k. through a S d Q k) (decLe (suc (s .cycle .0)) (q .cycle .0))
+    where
+      go : (s .cycle .0 < q .cycle .0 → Reached (perform s a) Step q) → Dec (s .cycle .0 < q .cycle .0) → Reached (perform s a) Step t
+      go ih (yes k) = next q b (ih k) g f
+      go ih (no k) =
+          let y = cycle-next t q b g f in
+          let same : q ≡ s = agree Q S (omega arith) in
+          let act : b ≡ a = one s b a (subst (λ (z : State). Step z b) same g) d in
+          origin (f ∙ ap (λ (z : State). perform z b) same ∙ ap (perform s) act)
 
   module _ (s : State) (a : Announcement) (login : ℕ) (S : Reach s) (d : Step s a) (ends : a .action ≡ End login) where
     -- a login that is listed in a cycle after the one that ended it was granted in between

@@ -37,9 +37,10 @@ use Rattle.node.proofs.Numbers.{deliver-numbers, query-numbers}
 use Rattle.node_c.specs.Calls.{delivered, asked}
 use Rattle.agreement.specs.History.{History, Moment, Outcome, run, answer}
 use Rattle.agreement.specs.Claims.{Performed, Opened, Park, EquivocationBound, Agreement, Ended, GrantedAgain, Demand3, AlwaysWellFormed, ImagesReadBack}
-use Rattle.agreement.proofs.Chain.{Reached, GrantBetween, agree, days, granted-since}
+use Rattle.agreement.specs.Chain.{Step, Reached, AlwaysReached}
+use Rattle.agreement.proofs.Chain.{GrantBetween, agree, days, granted-since}
 use Rattle.agreement.proofs.Calls.{run-deliver, run-query, heard}
-use Rattle.agreement.proofs.Steps.{Step, always}
+use Rattle.agreement.proofs.Steps.{always}
 
 -- ---- what a performed deliver and an open answer tell
 
@@ -80,13 +81,13 @@ opened n qb q rq r (Node.opens p rp o e) z =
     let same : p ≡ q = cc in
     subst (Opens n) same o
 
-opens : (u : Moment) (n : Node) (q : Query) → Opened u n q → Opens n q
+pub opens : (u : Moment) (n : Node) (q : Query) → Opened u n q → Opens n q
 opens u n q p =
     let said = ap (λ (x : Outcome). x .answer) (sym (run-query (u .before) (p .host) (p .qb) (p .out)) ∙ ap (run (u .before)) (sym (p .called))) ∙ p .answered in
     opened n (p .qb) q (p .read) (queryOf n (p .qb)) (query-comes-to n (p .qb)) (heard (u .before) (p .host) (asked (p .qb)) (p .out) n (p .held) said)
 
 -- the later of the given and the agreed day is not before the given one
-not-before-given : (a b : Day) → a .0 ≤ laterDay a b .0
+pub not-before-given : (a b : Day) → a .0 ≤ laterDay a b .0
 not-before-given a b = go (isBeforeDay a b) refl
   where
     go : (t : Bool) → isBeforeDay a b ≡ t → a .0 ≤ cond t b a .0
@@ -97,7 +98,7 @@ not-before-given a b = go (isBeforeDay a b) refl
 
 module _ (first : List ℕ) (calls : History) (park : Park first calls) where
   abbrev Taken : State → Announcement → Type 0
-  Taken = Step first calls
+  Taken = Step calls
 
   pub advances : (s : State) (a : Announcement) → Taken s a → Advances s a
   advances s a x =
@@ -109,7 +110,7 @@ module _ (first : List ℕ) (calls : History) (park : Park first calls) where
 
   module _ (bound : EquivocationBound calls) where
     -- each of two sheets shows a quorum, so they share more seats than the bound allows: the announcements are the same
-    one : (s : State) (a b : Announcement) → Taken s a → Taken s b → a ≡ b
+    pub one : (s : State) (a b : Announcement) → Taken s a → Taken s b → a ≡ b
     one s a b x y = go (List-discrete ℕ-discrete (x .bytes) (y .bytes))
       where
         quorate : (c : Announcement) (z : Taken s c) → quorumOf s ≤ countedSeats (rowsOf (z .sheet)) (s .seats)
@@ -179,6 +180,9 @@ demand-3 first calls park bound = (agreement first calls park bound, ended first
 
 pub always-well-formed : AlwaysWellFormed
 always-well-formed first calls park t m h n e = always first calls park t m .1 .held h n e .well-formed
+
+pub always-reached : AlwaysReached
+always-reached first calls park t m h n e = always first calls park t m .1 .held h n e .reach
 
 pub images-read-back : ImagesReadBack
 images-read-back first calls park t m = always first calls park t m .1 .reads

@@ -29,7 +29,7 @@ use Rattle.agreement.specs.NotIdle.{startSeat1, otherRows, endLogin, pea
 use Rattle.agreement.proofs.Demand.{advances}
 
 -- what unfolds where calls at hosts are computed
-unfoldable calls-at-hosts : Unit {0}
+unfoldable pub calls-at-hosts : Unit {0}
 unfolding calls-by-value toBytes overwrite encodeRows checkpointBytes imageBytes decodeImage isWellFormedVote isWellFormedOwn isImage readImage return onImage nodeStart nodeDeliver run momentsFrom
 calls-at-hosts = tt
 
@@ -50,22 +50,22 @@ each P w (c ∷ cs) h t m = pick (λ i. each P (run w c .after) cs (h .1) t i) (
 
 -- ---- the slices hold bytes
 
-abbrev isBytes : List ℕ → Bool
+abbrev pub isBytes : List ℕ → Bool
 isBytes b = all (λ x. ltb x 256) b
 
-bytes : (b : List ℕ) → isBytes b ≡ true → Bytes b
+pub bytes : (b : List ℕ) → isBytes b ≡ true → Bytes b
 unfolding all
 bytes [] e i = omega arith
 bytes (x ∷ xs) e zero = let t = simp and-eq-true-iff at e in ltb-true x 256 (t .0)
 bytes (x ∷ xs) e (suc i) = let t = simp and-eq-true-iff at e in bytes xs (t .1) i
 
-abbrev holdsBytes : Call → Bool
+abbrev pub holdsBytes : Call → Bool
 holdsBytes (start h cb rb out) = isBytes cb && (isBytes rb && isBytes out)
 holdsBytes (deliver h ab sb out) = isBytes ab && (isBytes sb && isBytes out)
 holdsBytes (query h qb out) = isBytes qb && isBytes out
 holdsBytes (checkpoint h out) = isBytes out
 
-holds-bytes : (c : Call) → holdsBytes c ≡ true → HoldsBytes c
+pub holds-bytes : (c : Call) → holdsBytes c ≡ true → HoldsBytes c
 holds-bytes (start h cb rb out) e = let t = simp and-eq-true-iff at e in (bytes cb (t .0), bytes rb (t .1 .0), bytes out (t .1 .1))
 holds-bytes (deliver h ab sb out) e = let t = simp and-eq-true-iff at e in (bytes ab (t .0), bytes sb (t .1 .0), bytes out (t .1 .1))
 holds-bytes (query h qb out) e = let t = simp and-eq-true-iff at e in (bytes qb (t .0), bytes out (t .1))
@@ -73,11 +73,11 @@ holds-bytes (checkpoint h out) e = bytes out e
 
 -- ---- the starts are from the first checkpoint
 
-abbrev FromFirst : Call → Type 0
-FromFirst (start h cb rb out) = cb ≡ firstCheckpoint
-FromFirst (deliver h ab sb out) = Unit {0}
-FromFirst (query h qb out) = Unit {0}
-FromFirst (checkpoint h out) = Unit {0}
+abbrev pub FromFirst : List ℕ → Call → Type 0
+FromFirst first (start h cb rb out) = cb ≡ first
+FromFirst first (deliver h ab sb out) = Unit {0}
+FromFirst first (query h qb out) = Unit {0}
+FromFirst first (checkpoint h out) = Unit {0}
 
 first-accepted : isCheckpoint firstCheckpoint ≡ true
 unfolding calls-by-value
@@ -87,12 +87,12 @@ first-is-bytes : isBytes firstCheckpoint ≡ true
 unfolding all
 first-is-bytes = refl
 
-park : (calls : History) → Each (λ c. holdsBytes c ≡ true) calls → Each FromFirst calls → Park firstCheckpoint calls
+park : (calls : History) → Each (λ c. holdsBytes c ≡ true) calls → Each (FromFirst firstCheckpoint) calls → Park firstCheckpoint calls
 park calls b f = record {
   first-bytes = bytes firstCheckpoint first-is-bytes;
   first-checkpoint = first-accepted;
   bytes = λ t m. holds-bytes (t .call) (each (λ c. holdsBytes c ≡ true) empty calls b t m);
-  starts = λ t m h cb rb out e a. inl (subst FromFirst e (each FromFirst empty calls f t m));
+  starts = λ t m h cb rb out e a. inl (subst (FromFirst firstCheckpoint) e (each (FromFirst firstCheckpoint) empty calls f t m));
 }
 
 -- ---- one announcement to a cycle

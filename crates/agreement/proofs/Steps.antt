@@ -8,7 +8,6 @@ use Prim.Native.Nat.{ℕ}
 use native.Mathlib.Omega.{arith}
 use lib.Dec.{eqb}
 use Rattle.state.specs.declared.State.{State}
-use Rattle.records.specs.declared.Announcement.{Announcement}
 use Rattle.checkpoint.specs.declared.CheckpointRead.{CheckpointRead}
 use Rattle.checkpoint.specs.Checkpoint.{checkpointBytes, readCheckpoint}
 use Rattle.checkpoint.proofs.Checkpoint.{state-read-back}
@@ -32,21 +31,13 @@ use Rattle.node_c.proofs.Image.{node-read-back}
 use Rattle.node_c.proofs.WellFormed.{start-makes-well-formed, deliver-keeps-well-formed, query-keeps-well-formed}
 use Rattle.node_c.specs.Calls.{HandedBack, started, delivered, asked}
 use Rattle.agreement.specs.History.{Host, byValue, throughC, Call, start, deliver, query, checkpoint, History, Cluster, empty, Outcome, imageNode, nodeAt, putNode, putImage, give, answers, run, Moment, answer, after, momentsFrom}
-use Rattle.agreement.specs.Claims.{Performed, Park, _∈_}
-use Rattle.agreement.proofs.Chain.{Reached, origin, next}
+use Rattle.agreement.specs.Claims.{Park, _∈_}
+use Rattle.agreement.specs.Chain.{Step, Reached, origin, next}
 use Rattle.agreement.proofs.Calls.{leave, onHost, run-deliver, run-query, Left, ran, startBy, run-start, start-refused, start-accepted, Gave, run-checkpoint}
 
 module _ (first : List ℕ) (calls : History) where
-  -- the announcement a is performed from s by a deliver call of the list
-  pub record Step (s : State) (a : Announcement) : Type 0 where
-    pub moment : Moment
-    pub inList : moment ∈ calls
-    pub bytes : List ℕ
-    pub sheet : List ℕ
-    pub performed : Performed moment s bytes a sheet
-
   abbrev pub Reach : State → Type 0
-  Reach s = Reached (readCheckpoint first .state) Step s
+  Reach s = Reached (readCheckpoint first .state) (Step calls) s
 
   pub record Fine (n : Node) : Type 0 where
     pub well-formed : WellFormedNode n

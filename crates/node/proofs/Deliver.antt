@@ -23,7 +23,7 @@ use Rattle.node.specs.Deliver.{deliverRefusal, showsQuorum, voteRefusal,
 use Rattle.node.specs.Claims.{MayVote, Accepted, ShowsQuorum, announcement-malformed, sheet-malformed, rule, may-not-vote, voted-otherwise, Delivery, refuses, votes, performs, DeliverComesTo}
 
 -- two lists of bytes that are the same
-same-bytes : (b : List ℕ) → isSameBytes b b ≡ true
+pub same-bytes : (b : List ℕ) → isSameBytes b b ≡ true
 unfolding isSameBytes
 same-bytes [] = refl
 same-bytes (x ∷ xs) = rw (eq-eqb x x refl) (same-bytes xs)
@@ -31,7 +31,7 @@ same-bytes (x ∷ xs) = rw (eq-eqb x x refl) (same-bytes xs)
 may-vote : (n : Node) → canVote n ≡ true → MayVote n
 may-vote n e = let t = simp and-eq-true-iff at e in record { standing = eqb-true _ _ (t .0); life = eqb-true _ _ (t .1) }
 
-can-vote : (n : Node) → MayVote n → canVote n ≡ true
+pub can-vote : (n : Node) → MayVote n → canVote n ≡ true
 can-vote n m = rw (eq-eqb _ _ (m .standing), eq-eqb _ _ (m .life))
 
 module _ (n : Node) (ab sb : List ℕ) where

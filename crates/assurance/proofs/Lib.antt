@@ -1,0 +1,15 @@
+-- The proofs of what an owner can rely on.
+pub mod Length
+pub mod Refusals
+pub mod More
+pub mod Interference
+pub mod Lists
+pub mod Sheets
+pub mod Progress
+pub mod Tight
+pub mod Facts
+pub mod Notice
+pub mod Rows
+pub mod Provenance
+pub mod Lives
+pub mod Removed

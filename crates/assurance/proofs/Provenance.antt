@@ -1,0 +1,138 @@
+-- Where an open answer comes from.
+use mathlib.Core.Path.{_≡_, refl, sym, ap, _∙_}
+use mathlib.Core.Logic.{_≢_}
+use mathlib.Core.Bool.{Bool, true, false, cond, true≢false}
+use mathlib.Core.List.{List, [], _∷_}
+use Prim.Native.Nat.{ℕ, _≤_}
+use native.Mathlib.Decide.{ℕ-discrete}
+use native.Mathlib.Omega.{arith}
+use borrow.Author.Tests.{eqb-true}
+use Rattle.lists.specs.Fold.{first}
+use Rattle.state.specs.declared.Login.{Login}
+use Rattle.state.specs.declared.State.{State}
+use Rattle.state.specs.Logins.{noLogin, isLogin, isNamed, findLogin, isListed, grantLogin}
+use Rattle.state.proofs.Logins.{unlisted-ended}
+use Rattle.records.specs.declared.Announcement.{Announcement}
+use Rattle.records.specs.declared.Action.{Action}
+use Rattle.records.specs.declared.Action.the-variants.{Propose, Cancel, Presents, Certify, Minima, Remove, Rejoin, Grant, End}
+use Rattle.checkpoint.specs.Checkpoint.{readCheckpoint}
+use Rattle.actions.specs.Perform.{perform, act, restand, relive, useProposal}
+use Rattle.agreement.specs.History.{History}
+use Rattle.agreement.specs.Chain.{Step, Reached, origin, next}
+use Rattle.agreement.proofs.Steps.{always}
+use Rattle.agreement.proofs.Demand.{opens, not-before-given}
+use Rattle.assurance.specs.Provenance.{Leaves, Provenance, at-first, granted, OpenIsGranted}
+use Rattle.assurance.proofs.Rows.{grant-found, grant-others, end-others}
+
+-- a row that is found has the name
+found-named : (login : ℕ) (rows : List Login) → isListed login rows ≡ true → findLogin login rows .login ≡ login
+unfolding isListed findLogin first
+found-named login [] e = absurd (true≢false (sym e))
+found-named login (r ∷ rs) e = at (isNamed login r) refl e (found-named login rs)
+  where
+    at : (b : Bool) → isNamed login r ≡ b → isLogin (cond b r (first (isNamed login) noLogin rs)) ≡ true
+        → (isLogin (first (isNamed login) noLogin rs) ≡ true → first (isNamed login) noLogin rs .login ≡ login)
+        → cond b r (first (isNamed login) noLogin rs) .login ≡ login
+    at true n e h = eqb-true (r .login) login n
+    at false n e h = h e
+
+-- What a step does to the row of a login that is listed afterwards: it grants that row, or leaves the row that was there.
+data After (login : ℕ) (r : State) (a : Announcement) : Type 0 where
+  grants : a .action ≡ Grant (findLogin login (perform r a .logins)) → After login r a
+  leaves : Leaves login a → findLogin login (perform r a .logins) ≡ findLogin login (r .logins) → After login r a
+
+-- the number of an action's kind
+abbrev kindOf : Action → ℕ
+kindOf (Propose kind arguments) = 1
+kindOf (Cancel c) = 2
+kindOf (Presents i flag) = 3
+kindOf (Certify i life) = 4
+kindOf (Minima m k S) = 5
+kindOf (Remove i) = 6
+kindOf (Rejoin i life) = 7
+kindOf (Grant x) = 8
+kindOf (End login) = 9
+
+module _ (login : ℕ) (r : State) (a : Announcement) (listed : isListed login (perform r a .logins) ≡ true) where
+  -- an action that is neither a grant nor an end
+  other : (x : Action) → a .action ≡ x → kindOf x ≤ 7 → findLogin login (perform r a .logins) ≡ findLogin login (r .logins) → After login r a
+  other x e k same =
+      leaves
+      (record {
+        no-grant = λ y z. let n = ap kindOf (sym e ∙ z) in absurd (omega arith);
+        no-end = λ z. let n = ap kindOf (sym e ∙ z) in omega arith;
+      })
+      same
+
+  after : (x : Action) → a .action ≡ x → After login r a
+  unfolding perform act restand relive useProposal
+  after (Propose kind arguments) e = other _ e (omega arith) (rw e refl)
+  after (Cancel c) e = other _ e (omega arith) (rw e refl)
+  after (Presents i flag) e = other _ e (omega arith) (rw e refl)
+  after (Certify i life) e = other _ e (omega arith) (rw e refl)
+  after (Minima m k S) e = other _ e (omega arith) (rw e refl)
+  after (Remove i) e = other _ e (omega arith) (rw e refl)
+  after (Rejoin i life) e = other _ e (omega arith) (rw e refl)
+  after (Grant x) e = at (ℕ-discrete (x .login) login)
+    where
+      there : isListed login (grantLogin x (r .logins)) ≡ true
+      there = rw e at listed
+
+      at : Dec (x .login ≡ login) → After login r a
+      at (yes same) = grants (e ∙ ap Grant (rw e (sym (grant-found login x (r .logins) same there))))
+      at (no n) =
+          leaves
+          (record {
+            no-grant = λ y z. (let q : Grant x ≡ Grant y = sym e ∙ z in let same : x ≡ y = cc in λ w. n (ap (λ (v : Login). v .login) same ∙ w));
+            no-end = λ z. let k = ap kindOf (sym e ∙ z) in omega arith;
+          })
+          (rw e (grant-others login x (r .logins) n there))
+  after (End l) e = at (ℕ-discrete l login)
+    where
+      at : Dec (l ≡ login) → After login r a
+      at (yes same) = absurd (true≢false (sym listed ∙ rw (e, same) (unlisted-ended login (r .logins))))
+      at (no n) =
+          leaves
+          (record {
+            no-grant = λ y z. let k = ap kindOf (sym e ∙ z) in absurd (omega arith);
+            no-end = λ z. (let q : End l ≡ End login = sym e ∙ z in let same : l ≡ login = cc in n same);
+          })
+          (rw e (end-others login l (r .logins) n))
+
+module _ (first : State) (calls : History) (login : ℕ) where
+  -- what a row comes from is also that of the next state, where the step leaves it
+  later : {r u : State} {row : Login} (a : Announcement) → Step calls r a → Leaves login a → u ≡ perform r a
+      → Provenance first calls login r row → Provenance first calls login u row
+  later {r} a x l e (at-first f S) = at-first f (next r a S (x, l) e)
+  later {r} a x l e (granted q b Q y f S) = granted q b Q y f (next r a S (x, l) e)
+
+  stems : {u : State} → Reached first (Step calls) u → isListed login (u .logins) ≡ true → Provenance first calls login u (findLogin login (u .logins))
+  unfolding isListed
+  stems (origin e) listed = at-first (ap (λ (z : State). findLogin login (z .logins)) (sym e)) (origin e)
+  stems {u} (next r a R x e) listed = at (stems R) (after login r a (ap (λ (z : State). isListed login (z .logins)) (sym e) ∙ listed) (a .action) refl)
+    where
+      here : findLogin login (perform r a .logins) ≡ findLogin login (u .logins)
+      here = ap (λ (z : State). findLogin login (z .logins)) (sym e)
+
+      at : (isListed login (r .logins) ≡ true → Provenance first calls login r (findLogin login (r .logins))) → After login r a
+          → Provenance first calls login u (findLogin login (u .logins))
+      at before (grants f) = granted r a R x (f ∙ ap Grant here) (origin e)
+      at before (leaves l same) =
+          let was : findLogin login (u .logins) ≡ findLogin login (r .logins) = sym here ∙ same in
+          rw was (later a x l e (before (ap isLogin (sym was) ∙ listed)))
+
+pub open-is-granted : OpenIsGranted
+open-is-granted first calls park t m n q o =
+    let O = opens t n q o in
+    let R = always first calls park t m .0 .held (o .host) n (o .held) .reach in
+    let v = not-before-given (q .day) (n .state .day) in
+    let w = O .within-silence in
+    let e = O .not-ended in
+    record {
+      row = findLogin (q .login) (n .state .logins);
+      provenance = stems (readCheckpoint first .state) calls (q .login) R (O .listed);
+      named = found-named (q .login) (n .state .logins) (O .listed);
+      right = O .right-held;
+      end = omega arith;
+      heard = omega arith;
+    }

@@ -1,0 +1,139 @@
+-- One computed test of the histories of all margins, and what it tells of each.
+use mathlib.Core.Path.{_≡_, refl, sym, ap, _∙_, subst}
+use mathlib.Core.Logic.{inl}
+use mathlib.Core.Bool.{Bool, true, false, not, _&&_, and-eq-true-iff, false≢true}
+use mathlib.Core.List.{List, [], _∷_, List·Memᴰ·head, List·Memᴰ·tail, map}
+use mathlib.Core.Option.{Option, none, some}
+use Prim.Native.Nat.{ℕ, zero, suc, _+_, _*_, _≤_}
+use native.Mathlib.Nat.{le-trans}
+use native.Mathlib.Omega.{arith}
+use lib.Dec.{eqb, leb}
+use lib.ListN.{length, replicate}
+use borrow.Author.Tests.{eqb-true, eqb-false, leb-true, not-true}
+use Rattle.lists.specs.Fold.{all}
+use Rattle.lists.proofs.Every as Every
+use Rattle.lists.proofs.Every.{All, more, all-of}
+use Rattle.state.specs.Time.{cycle}
+use Rattle.state.specs.Seats.{presentSeats}
+use Rattle.records.specs.Sheet.{rowsOf, counts, countedSeats, countedOnBoth}
+use Rattle.records.proofs.Counts.{counts-once}
+use Rattle.checkpoint.specs.Checkpoint.{checkpointBytes, isCheckpoint}
+use Rattle.node.specs.declared.Node.{Node}
+use Rattle.node.specs.Own.{isSameBytes}
+use Rattle.node.proofs.Deliver.{same-bytes}
+use Rattle.agreement.specs.History.{Host, byValue, throughC, Call, start, deliver, query, checkpoint, History, Cluster, empty, nodeAt, Moment, momentsFrom, moments, answer, after}
+use Rattle.agreement.specs.Claims.{_∈_, Agreement, runAll}
+use Rattle.agreement.proofs.NotIdle.{isBytes, bytes, holdsBytes, holds-bytes, FromFirst, calls-at-hosts}
+use Rattle.assurance.specs.Sheets.{sheetOf}
+use Rattle.assurance.specs.Tight.{firstState, first, rowsBelow, fullSheet, divided, LooserBound, BeyondByOne, BoundIsTight}
+use Rattle.assurance.proofs.Lists.{all-in, fewer}
+
+-- ---- the starts are from the first checkpoint
+
+from-first : (m : ℕ) → All (λ t. FromFirst (first m) (t .call)) (moments (divided m))
+unfolding momentsFrom
+from-first m = more refl (more refl (more tt (more tt Every.none)))
+
+-- ---- every call is answered 0
+
+abbrev isDone : Option ℕ → Bool
+isDone none = false
+isDone (some k) = eqb k 0
+
+done : (xs : List (Option ℕ)) → all isDone xs ≡ true → xs ≡ replicate (length xs) (some 0)
+unfolding all
+done [] e = refl
+done (none ∷ xs) e = absurd (false≢true e)
+done (some k ∷ xs) e = let t = simp and-eq-true-iff at e in rw (eqb-true k 0 (t .0), ← done xs (t .1))
+
+-- ---- deliver calls find states with at most 2m+1 present seats
+
+abbrev hasFew : Option Node → Bool
+hasFew none = true
+hasFew (some n) = leb (presentSeats (n .state .seats)) (2 * n .state .margin + 1)
+
+abbrev findsFew : Cluster → Call → Bool
+findsFew w (start h cb rb out) = true
+findsFew w (deliver h ab sb out) = hasFew (nodeAt w h)
+findsFew w (query h qb out) = true
+findsFew w (checkpoint h out) = true
+
+looser-bound : (calls : History) → All (λ t. findsFew (t .before) (t .call) ≡ true) (moments calls) → LooserBound calls
+unfolding countedOnBoth countedSeats
+looser-bound calls f t u i j s ab bb a b asb bsb p q n =
+    let few = subst (λ o. hasFew o ≡ true) (p .held) (subst (λ c. findsFew (t .before) c ≡ true) (p .called) (all-in f i)) in
+    rw (p .state) (le-trans (fewer (counts (rowsOf asb)) (counts (rowsOf bsb)) 0 _) (le-trans (counts-once (rowsOf bsb) _) (leb-true _ _ few)))
+
+-- ---- two nodes of one cycle differ
+
+abbrev differ : Option Node → Option Node → Bool
+differ none y = false
+differ (some n) none = false
+differ (some n) (some k) = eqb (n .state .cycle .0) (k .state .cycle .0) && not (isSameBytes (checkpointBytes (n .state)) (checkpointBytes (k .state)))
+
+split : (calls : History) (t : Moment) → t ∈ calls → (g h : Host) → differ (nodeAt (after t) g) (nodeAt (after t) h) ≡ true → ¬ Agreement calls
+split calls t i g h d A = by (nodeAt (after t) g) refl (nodeAt (after t) h) refl d
+  where
+    by : (x : Option Node) → nodeAt (after t) g ≡ x → (y : Option Node) → nodeAt (after t) h ≡ y → differ x y ≡ true → ⊥
+    by none e y f d = false≢true d
+    by (some n) e none f d = false≢true d
+    by (some n) e (some k) f d =
+        let o = simp and-eq-true-iff at d in
+        let same = A t t i i g h n k e f (ap cycle (eqb-true _ _ (o .0))) in
+        let b : isSameBytes (checkpointBytes (n .state)) (checkpointBytes (k .state)) ≡ true = rw same (same-bytes (checkpointBytes (k .state))) in
+        false≢true (sym (not-true _ (o .1)) ∙ b)
+
+-- ---- the test
+
+-- the number of double voters
+abbrev doubleVoters : ℕ → ℕ
+doubleVoters m = countedOnBoth (rowsOf (fullSheet m)) (rowsOf (fullSheet m)) (firstState m .seats)
+
+unfoldable test : ℕ → Bool
+test m =
+    isBytes (first m)
+    && (isCheckpoint (first m)
+    && (all (λ t. holdsBytes (t .call)) (moments (divided m))
+    && (all isDone (map answer (moments (divided m)))
+    && (eqb (doubleVoters m) (2 * m + 1)
+    && (all (λ t. findsFew (t .before) (t .call)) (moments (divided m))
+    && differ (nodeAt (runAll empty (divided m)) (byValue 0)) (nodeAt (runAll empty (divided m)) (throughC 1)))))))
+
+-- what it tells
+tested : (m : ℕ) → test m ≡ true → BeyondByOne m
+unfolding test momentsFrom runAll
+tested m e =
+    let t = simp and-eq-true-iff at e in
+    record {
+      park = record {
+        first-bytes = bytes (first m) (t .0);
+        first-checkpoint = t .1 .0;
+        bytes = λ u i. holds-bytes (u .call) (all-in (all-of _ (moments (divided m)) (t .1 .1 .0)) i);
+        starts = λ u i h cb rb out c a. inl (subst (FromFirst (first m)) c (all-in (from-first m) i));
+      };
+      performed = done (map answer (moments (divided m))) (t .1 .1 .1 .0);
+      double-voters = eqb-true _ _ (t .1 .1 .1 .1 .0);
+      looser-bound = looser-bound (divided m) (all-of _ (moments (divided m)) (t .1 .1 .1 .1 .1 .0));
+      splits = split (divided m) _ (List·Memᴰ·tail (List·Memᴰ·tail (List·Memᴰ·tail (List·Memᴰ·head refl)))) (byValue 0) (throughC 1) (t .1 .1 .1 .1 .1 .1);
+    }
+
+-- the test passes up to n
+unfoldable upTo : (ℕ → Bool) → ℕ → Bool
+upTo p zero = p zero
+upTo p (suc n) = p (suc n) && upTo p n
+
+up-to : (p : ℕ → Bool) (n : ℕ) → upTo p n ≡ true → (m : ℕ) → m ≤ n → p m ≡ true
+unfolding upTo
+up-to p zero e m h = let z : m ≡ 0 = omega arith in rw z e
+up-to p (suc n) e m h = let t = simp and-eq-true-iff at e in at (eqb m (suc n)) refl (t .0) (up-to p n (t .1) m)
+  where
+    at : (b : Bool) → eqb m (suc n) ≡ b → p (suc n) ≡ true → (m ≤ n → p m ≡ true) → p m ≡ true
+    at true s f g = rw (eqb-true m (suc n) s) f
+    at false s f g = let o = eqb-false m (suc n) s in g (omega (arith, o))
+
+all-margins : upTo test 7 ≡ true
+unfolding calls-at-hosts test upTo runAll sheetOf rowsBelow countedOnBoth
+all-margins = refl
+
+pub bound-is-tight : BoundIsTight
+bound-is-tight m h = tested m (up-to test 7 all-margins m h)

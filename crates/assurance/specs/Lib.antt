@@ -1,0 +1,10 @@
+-- What an owner can rely on, beyond demand 3.
+pub mod Refusals
+pub mod Interference
+pub mod Sheets
+pub mod Progress
+pub mod Tight
+pub mod Notice
+pub mod Provenance
+pub mod Lives
+pub mod Removed

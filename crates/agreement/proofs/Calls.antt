@@ -68,16 +68,26 @@ module _ (w : Cluster) (i : ℕ) (r : HandedBack) (out : List ℕ) (fine : Write
   held : Bool → List ℕ → Cluster
   held b image = cond b (putImage w i image) w
 
+  -- what a call that writes leaves
+  written : (x : Returned) → Writes (r .number) → x ≡ record { number = r .number; slice = overwrite (imageBytes (r .node)) out }
+      → keepImage w i x ≡ answers (r .number) (putImage w i (imageBytes (r .node)))
+  unfolding held
+  written x v e =
+      ap (keepImage w i) e
+      ∙ ap (λ (b : Bool). answers (r .number) (held b (take imageSize (overwrite (imageBytes (r .node)) out)))) (writes-to (r .number) v)
+      ∙ ap (λ (image : List ℕ). answers (r .number) (putImage w i image)) (front (imageBytes (r .node)) out imageSize (image-length (r .node) (fine v .fits)))
+
   by-returning : (x : Returned) → Returning r out x → Kept w i r (keepImage w i x)
   unfolding held
   by-returning x (no-room l a b e) = inl (ap (λ (y : Returned). keepImage w i y .after) e)
-  by-returning x (writes l v e) = inr (
-    v,
-    ap (keepImage w i) e
-        ∙ ap (λ (b : Bool). answers (r .number) (held b (take imageSize (overwrite (imageBytes (r .node)) out)))) (writes-to (r .number) v)
-        ∙ ap (λ (image : List ℕ). answers (r .number) (putImage w i image)) (front (imageBytes (r .node)) out imageSize (image-length (r .node) (fine v .fits))),
-  )
+  by-returning x (writes l v e) = inr (v, written x v e)
   by-returning x (leaves n p e) = inl (ap (λ (y : Returned). keepImage w i y .after) e ∙ ap (λ (b : Bool). held b (take imageSize out)) (leaves-to (r .number) n))
+
+  -- a call that returns 128 handed back 128
+  returned-voted : (x : Returned) → Returning r out x → x .number ≡ 128 → (r .number ≡ 128) × (keepImage w i x ≡ answers (r .number) (putImage w i (imageBytes (r .node))))
+  returned-voted x (no-room l a b e) z = let q : x .number ≡ 22 = ap (λ (y : Returned). y .number) e in absurd (omega arith)
+  returned-voted x (writes l v e) z = (sym (ap (λ (y : Returned). y .number) e) ∙ z, written x v e)
+  returned-voted x (leaves n p e) z = absurd (n (inr (inl (sym (ap (λ (y : Returned). y .number) e) ∙ z))))
 
   pub kept : Kept w i r (keepImage w i (return r out))
   kept = by-returning (return r out) (calls-return r out)
@@ -153,6 +163,24 @@ ran w (throughC i) f out fine = go (w .images i) refl
             let held : nodeAt w (throughC i) ≡ some n = ap imageNode e ∙ is in
             with n held (on-image f b out n is) (kept w i (f n) out (λ h. fine n held))
         read false t = inl (ap (λ (r : Returned). keepImage w i r .after) (unread f b out t))
+
+-- a call that is answered 128 leaves what f hands back
+pub voted-left : (w : Cluster) (h : Host) (f : Node → HandedBack) (out : List ℕ) (n : Node) → WellFormedNode (f n .node) → nodeAt w h ≡ some n
+    → onHost w h f out .answer ≡ some 128 → (f n .number ≡ 128) × (onHost w h f out .after ≡ leave w h (f n .node))
+voted-left w (byValue i) f out n fine e a = (
+  Option·some-injective (f n .number) 128 (ap (λ (o : Option Node). onNode w i f o .answer) (sym e) ∙ a),
+  ap (λ (o : Option Node). onNode w i f o .after) e,
+)
+voted-left w (throughC i) f out n fine e a = go (w .images i) e a
+  where
+    go : (o : Option (List ℕ)) → imageNode o ≡ some n → onHeldImage w i (λ b. onImage f b out) o .answer ≡ some 128
+        → (f n .number ≡ 128) × (onHeldImage w i (λ b. onImage f b out) o .after ≡ leave w (throughC i) (f n .node))
+    go none e a = absurd (let z : _≡_ {A = ℕ} 0 1 = cc in omega arith)
+    go (some b) e a =
+        let q = on-image f b out n e in
+        let said = ap (λ (r : Returned). r .number) (sym q) ∙ Option·some-injective (onImage f b out .number) 128 a in
+        let t = returned-voted w i (f n) out (λ v. fine) (return (f n) out) (calls-return (f n) out) said in
+        (t .0, ap (λ (r : Returned). keepImage w i r .after) q ∙ ap (λ (x : Outcome). x .after) (t .1))
 
 -- ---- start
 

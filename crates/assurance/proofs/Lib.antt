@@ -7,6 +7,9 @@ pub mod Lists
 pub mod Sheets
 pub mod Progress
 pub mod Tight
+pub mod Votes
+pub mod Earned
+pub mod Unsteady
 pub mod Facts
 pub mod Notice
 pub mod Rows

@@ -1,13 +1,13 @@
 -- Members of lists, and how many pass a test.
 use mathlib.Core.Path.{_≡_, refl, sym, ap, _∙_}
 use mathlib.Core.Logic.{_⊎_, inl, inr}
-use mathlib.Core.Bool.{Bool, true, false, cond, not, _&&_, and-false, false≢true}
+use mathlib.Core.Bool.{Bool, true, false, cond, not, _&&_, and-false, and-eq-true-iff, false≢true}
 use mathlib.Core.List.{List, [], _∷_, List·Memᴰ, List·Memᴰ·head, List·Memᴰ·tail, List·Memᴰ·cases-cons, List·Memᴰ·not-nil, map}
 use Prim.Native.Nat.{ℕ, zero, suc, _+_, _≤_, _<_}
 use native.Mathlib.Omega.{arith}
 use lib.Dec.{eqb}
 use lib.ListN.{length, getD, replicate, getD-replicate}
-use borrow.Author.Tests.{eq-eqb, ne-eqb}
+use borrow.Author.Tests.{eqb-true, eq-eqb, ne-eqb, not-true}
 use Rattle.lists.specs.Fold.{countFrom}
 use Rattle.lists.proofs.Every.{All, more}
 use Rattle.assurance.specs.Progress.{Distinct}
@@ -68,6 +68,58 @@ module _ {A : Type 0} where
       λ w m. rw (ne-eqb w v (λ (e : w ≡ v). s .0 (rw (sym e) m)), h w (List·Memᴰ·tail m)) in
       let t = at-least (but v p) d (λ j. rw (z j) (and-false (not (eqb j v)))) xs vs (s .1) others in
       omega (arith, one-less p d z v 0 v (omega arith) xs (h v (List·Memᴰ·head refl)))
+
+  -- ---- at most
+
+  -- past index v the test is the same
+  same-past : (p : ℕ → A → Bool) (v i : ℕ) → v < i → (xs : List A) → countFrom (but v p) i xs ≡ countFrom p i xs
+  unfolding countFrom
+  same-past p v i l [] = refl
+  same-past p v i l (x ∷ xs) = rw (ne-eqb i v (λ e. omega arith), same-past p v (suc i) (omega arith) xs)
+
+  one-more : (p : ℕ → A → Bool) (v i : ℕ) (xs : List A) → countFrom p i xs ≤ suc (countFrom (but v p) i xs)
+  unfolding countFrom
+  one-more p v i [] = omega arith
+  one-more p v i (x ∷ xs) = at (eqb i v) refl (one-more p v (suc i) xs)
+    where
+      one : (b : Bool) → cond b 1 0 ≤ 1
+      one true = omega arith
+      one false = omega arith
+
+      at : (b : Bool) → eqb i v ≡ b → countFrom p (suc i) xs ≤ suc (countFrom (but v p) (suc i) xs)
+          → cond (p i x) 1 0 + countFrom p (suc i) xs ≤ suc (cond (but v p i x) 1 0 + countFrom (but v p) (suc i) xs)
+      at true e h =
+          let s = eqb-true i v e in
+          let same = same-past p v (suc i) (omega arith) xs in
+          rw (e, same) (omega (arith, one (p i x)))
+      at false e h = rw e (omega arith)
+
+  none-pass : (p : ℕ → A → Bool) (d : A) (i : ℕ) (xs : List A) → ((k : ℕ) → p (i + k) (getD xs k d) ≡ false) → countFrom p i xs ≡ 0
+  unfolding countFrom
+  none-pass p d i [] h = refl
+  none-pass p d i (x ∷ xs) h =
+      let z : i + 0 ≡ i = omega arith in
+      let f : p i x ≡ false = rw z at (h 0) in
+      rw (f, none-pass p d (suc i) xs (λ k. (let e : suc i + k ≡ i + suc k = omega arith in rw e (h (suc k)))))
+
+  -- No more elements pass than there are numbers in a list that has the index of each that does.
+  pub at-most : (p : ℕ → A → Bool) (d : A) (xs : List A) (vs : List ℕ) → ((k : ℕ) → p k (getD xs k d) ≡ true → List·Memᴰ k vs) → countFrom p 0 xs ≤ length vs
+  at-most p d xs [] h = omega (arith, none-pass p d 0 xs (λ k. (let e : 0 + k ≡ k = omega arith in rw e (at k (p k (getD xs k d)) refl))))
+    where
+      at : (k : ℕ) (b : Bool) → p k (getD xs k d) ≡ b → p k (getD xs k d) ≡ false
+      at k true e = absurd (List·Memᴰ·not-nil (h k e))
+      at k false e = e
+  at-most p d xs (v ∷ vs) h = omega (arith, one-more p v 0 xs, at-most (but v p) d xs vs others)
+    where
+      others : (k : ℕ) → but v p k (getD xs k d) ≡ true → List·Memᴰ k vs
+      others k e = pick (List·Memᴰ·cases-cons (h k (t .1)))
+        where
+          t : (not (eqb k v) ≡ true) × (p k (getD xs k d) ≡ true)
+          t = and-eq-true-iff (not (eqb k v)) (p k (getD xs k d)) .0 e
+
+          pick : (k ≡ v) ⊎ List·Memᴰ k vs → List·Memᴰ k vs
+          pick (inl s) = absurd (false≢true (sym (not-true _ (t .0)) ∙ eq-eqb k v s))
+          pick (inr m) = m
 
 all-pass : (n i : ℕ) → countFrom (λ j x. x) i (replicate n true) ≡ n
 unfolding countFrom

@@ -22,7 +22,7 @@ use Rattle.node.specs.declared.Node.{Node}
 use Rattle.node.specs.Own.{isSameBytes}
 use Rattle.node.proofs.Deliver.{same-bytes}
 use Rattle.agreement.specs.History.{Host, byValue, throughC, Call, start, deliver, query, checkpoint, History, Cluster, empty, nodeAt, Moment, momentsFrom, moments, answer, after}
-use Rattle.agreement.specs.Claims.{_∈_, Agreement, runAll}
+use Rattle.agreement.specs.Claims.{_∈_, Park, Agreement, runAll}
 use Rattle.agreement.proofs.NotIdle.{isBytes, bytes, holdsBytes, holds-bytes, FromFirst, calls-at-hosts}
 use Rattle.assurance.specs.Sheets.{sheetOf}
 use Rattle.assurance.specs.Tight.{firstState, first, rowsBelow, fullSheet, divided, LooserBound, BeyondByOne, BoundIsTight}
@@ -33,6 +33,16 @@ use Rattle.assurance.proofs.Lists.{all-in, fewer}
 from-first : (m : ℕ) → All (λ t. FromFirst (first m) (t .call)) (moments (divided m))
 unfolding momentsFrom
 from-first m = more refl (more refl (more tt (more tt Every.none)))
+
+-- so the list is one of a park
+pub park-of : (first : List ℕ) (calls : History) → isBytes first ≡ true → isCheckpoint first ≡ true → all (λ t. holdsBytes (t .call)) (moments calls) ≡ true
+    → All (λ t. FromFirst first (t .call)) (moments calls) → Park first calls
+park-of first calls b c h f = record {
+  first-bytes = bytes first b;
+  first-checkpoint = c;
+  bytes = λ u i. holds-bytes (u .call) (all-in (all-of _ (moments calls) h) i);
+  starts = λ u i h cb rb out c a. inl (subst (FromFirst first) c (all-in f i));
+}
 
 -- ---- every call is answered 0
 
@@ -66,20 +76,20 @@ looser-bound calls f t u i j s ab bb a b asb bsb p q n =
 
 -- ---- two nodes of one cycle differ
 
-abbrev differ : Option Node → Option Node → Bool
+abbrev pub differ : Option Node → Option Node → Bool
 differ none y = false
 differ (some n) none = false
 differ (some n) (some k) = eqb (n .state .cycle .0) (k .state .cycle .0) && not (isSameBytes (checkpointBytes (n .state)) (checkpointBytes (k .state)))
 
-split : (calls : History) (t : Moment) → t ∈ calls → (g h : Host) → differ (nodeAt (after t) g) (nodeAt (after t) h) ≡ true → ¬ Agreement calls
-split calls t i g h d A = by (nodeAt (after t) g) refl (nodeAt (after t) h) refl d
+pub split : (calls : History) (t u : Moment) → t ∈ calls → u ∈ calls → (g h : Host) → differ (nodeAt (after t) g) (nodeAt (after u) h) ≡ true → ¬ Agreement calls
+split calls t u i j g h d A = by (nodeAt (after t) g) refl (nodeAt (after u) h) refl d
   where
-    by : (x : Option Node) → nodeAt (after t) g ≡ x → (y : Option Node) → nodeAt (after t) h ≡ y → differ x y ≡ true → ⊥
+    by : (x : Option Node) → nodeAt (after t) g ≡ x → (y : Option Node) → nodeAt (after u) h ≡ y → differ x y ≡ true → ⊥
     by none e y f d = false≢true d
     by (some n) e none f d = false≢true d
     by (some n) e (some k) f d =
         let o = simp and-eq-true-iff at d in
-        let same = A t t i i g h n k e f (ap cycle (eqb-true _ _ (o .0))) in
+        let same = A t u i j g h n k e f (ap cycle (eqb-true _ _ (o .0))) in
         let b : isSameBytes (checkpointBytes (n .state)) (checkpointBytes (k .state)) ≡ true = rw same (same-bytes (checkpointBytes (k .state))) in
         false≢true (sym (not-true _ (o .1)) ∙ b)
 
@@ -105,16 +115,11 @@ unfolding test momentsFrom runAll
 tested m e =
     let t = simp and-eq-true-iff at e in
     record {
-      park = record {
-        first-bytes = bytes (first m) (t .0);
-        first-checkpoint = t .1 .0;
-        bytes = λ u i. holds-bytes (u .call) (all-in (all-of _ (moments (divided m)) (t .1 .1 .0)) i);
-        starts = λ u i h cb rb out c a. inl (subst (FromFirst (first m)) c (all-in (from-first m) i));
-      };
+      park = park-of (first m) (divided m) (t .0) (t .1 .0) (t .1 .1 .0) (from-first m);
       performed = done (map answer (moments (divided m))) (t .1 .1 .1 .0);
       double-voters = eqb-true _ _ (t .1 .1 .1 .1 .0);
       looser-bound = looser-bound (divided m) (all-of _ (moments (divided m)) (t .1 .1 .1 .1 .1 .0));
-      splits = split (divided m) _ (List·Memᴰ·tail (List·Memᴰ·tail (List·Memᴰ·tail (List·Memᴰ·head refl)))) (byValue 0) (throughC 1) (t .1 .1 .1 .1 .1 .1);
+      splits = let last = List·Memᴰ·tail (List·Memᴰ·tail (List·Memᴰ·tail (List·Memᴰ·head refl))) in split (divided m) _ _ last last (byValue 0) (throughC 1) (t .1 .1 .1 .1 .1 .1);
     }
 
 -- the test passes up to n

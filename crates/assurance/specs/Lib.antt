@@ -4,6 +4,7 @@ pub mod Interference
 pub mod Sheets
 pub mod Progress
 pub mod Tight
+pub mod Earned
 pub mod Notice
 pub mod Provenance
 pub mod Lives

@@ -7,15 +7,17 @@ use Prim.Native.Nat.{ℕ}
 use native.Mathlib.Omega.{arith}
 use Rattle.state.specs.declared.State.{State}
 use Rattle.state.specs.Seats.{freeSeat, seatAt}
+use Rattle.records.specs.declared.Announcement.{Announcement}
 use Rattle.records.specs.Sheet.{rowsOf, counts, countedOnBoth}
 use Rattle.agreement.specs.History.{History, Moment}
 use Rattle.agreement.specs.Claims.{Park, EquivocationBound}
+use Rattle.agreement.specs.Chain.{Step}
 use Rattle.agreement.proofs.Demand.{demand-3}
-use Rattle.assurance.specs.Earned.{VoteOf, GoesOn, Steady, Honest, Earned}
+use Rattle.assurance.specs.Earned.{VoteOf, GoesOn, Steady, HonestVote, Honest, Earned}
 use Rattle.assurance.proofs.Lists.{at-most}
 use Rattle.assurance.proofs.Votes.{one-vote, same-call}
 
-module _ (first : List ℕ) (calls : History) (park : Park first calls) (honest : (s : State) → Honest calls s) where
+module _ (first : List ℕ) (calls : History) (park : Park first calls) (honest : (s : State) (a : Announcement) → Step calls s a → Honest calls s) where
   -- two votes of a steady seat in one cycle are for the same bytes
   steady-vote : (i life c : ℕ) (ab bb : List ℕ) → Steady calls i life c → (t u : Moment) → VoteOf calls i life c ab t → VoteOf calls i life c bb u → ab ≡ bb
   steady-vote i life c ab bb steady t u v w = at (steady ab bb t u v w)
@@ -32,24 +34,25 @@ module _ (first : List ℕ) (calls : History) (park : Park first calls) (honest 
   bound : EquivocationBound calls
   unfolding countedOnBoth
   bound t u m k s ab bb a b asb bsb p q differ =
-      let h = honest s in
       omega (arith, h .few, at-most (λ i x. counts (rowsOf asb) i x && counts (rowsOf bsb) i x) freeSeat (s .seats) (h .faulty) both)
     where
-      both : (i : ℕ) → (counts (rowsOf asb) i (seatAt i (s .seats)) && counts (rowsOf bsb) i (seatAt i (s .seats))) ≡ true → List·Memᴰ i (honest s .faulty)
-      both i e = at (honest s .steady i) (honest s .voted t ab a asb m p i (c .0)) (honest s .voted u bb b bsb k q i (c .1))
+      h : Honest calls s
+      h = honest s a (record { moment = t; inList = m; bytes = ab; sheet = asb; performed = p })
+
+      both : (i : ℕ) → (counts (rowsOf asb) i (seatAt i (s .seats)) && counts (rowsOf bsb) i (seatAt i (s .seats))) ≡ true → List·Memᴰ i (h .faulty)
+      both i e = at (h .others t ab a asb m p i (c .0)) (h .others u bb b bsb k q i (c .1))
         where
           c : (counts (rowsOf asb) i (seatAt i (s .seats)) ≡ true) × (counts (rowsOf bsb) i (seatAt i (s .seats)) ≡ true)
           c = and-eq-true-iff (counts (rowsOf asb) i (seatAt i (s .seats))) (counts (rowsOf bsb) i (seatAt i (s .seats))) .0 e
 
           Vote : List ℕ → Type 0
-          Vote x = (v : Moment) × VoteOf calls i (seatAt i (s .seats) .life) (s .cycle .0) x v
+          Vote x = HonestVote calls i (seatAt i (s .seats) .life) (s .cycle .0) x
 
-          at : List·Memᴰ i (honest s .faulty) ⊎ Steady calls i (seatAt i (s .seats) .life) (s .cycle .0)
-              → List·Memᴰ i (honest s .faulty) ⊎ Vote ab → List·Memᴰ i (honest s .faulty) ⊎ Vote bb → List·Memᴰ i (honest s .faulty)
-          at (inl f) v w = f
-          at (inr st) (inl f) w = f
-          at (inr st) (inr v) (inl f) = f
-          at (inr st) (inr v) (inr w) = absurd (differ (steady-vote i (seatAt i (s .seats) .life) (s .cycle .0) ab bb st (v .0) (w .0) (v .1) (w .1)))
+          at : List·Memᴰ i (h .faulty) ⊎ Vote ab → List·Memᴰ i (h .faulty) ⊎ Vote bb → List·Memᴰ i (h .faulty)
+          at (inl f) w = f
+          at (inr v) (inl f) = f
+          at (inr v) (inr w) =
+              absurd (differ (steady-vote i (seatAt i (s .seats) .life) (s .cycle .0) ab bb (v .steady) (v .moment) (w .moment) (v .vote) (w .vote)))
 
 pub earned : Earned
 earned first calls park honest = let b = bound first calls park honest in (b, demand-3 first calls park b)

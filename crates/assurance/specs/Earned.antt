@@ -14,6 +14,7 @@ use Rattle.node.specs.declared.Node.{Node}
 use Rattle.marked_examples.specs.Records.{grantTo}
 use Rattle.agreement.specs.History.{Host, byValue, Call, start, deliver, History, Moment, moments, nodeAt, answer}
 use Rattle.agreement.specs.Claims.{_∈_, Performed, Park, EquivocationBound, Agreement, Ended}
+use Rattle.agreement.specs.Chain.{Step}
 use Rattle.assurance.specs.Sheets.{sheetOf}
 use Rattle.assurance.specs.Tight.{first, startSeat, fullSheet}
 
@@ -59,19 +60,25 @@ abbrev pub Steady : History → ℕ → ℕ → ℕ → Type 0
 Steady calls seat life cycle = (ab bb : List ℕ) (t u : Moment) (v : VoteOf calls seat life cycle ab t) (w : VoteOf calls seat life cycle bb u)
     → (t ≡ u) ⊎ (GoesOn calls t u v w ⊎ GoesOn calls u t w v)
 
--- What honest seats do in a state s: but for a set of at most 2m seats, each seat that counts on the sheet of a delivery that is performed from s gave that vote
--- in the list, under its listed life and in the cycle of s, and its votes are steady.
+-- the seat voted for ab in the list, under this life and in this cycle, and its votes are steady
+pub record HonestVote (calls : History) (seat life cycle : ℕ) (ab : List ℕ) : Type 0 where
+  pub moment : Moment
+  pub vote : VoteOf calls seat life cycle ab moment
+  pub steady : Steady calls seat life cycle
+
+-- But for a set of at most 2m seats, each seat that counts on the sheet of a delivery which is performed from the state s gave an honest vote under its listed
+-- life and in the cycle of s.
 pub record Honest (calls : History) (s : State) : Type 0 where
   pub faulty : List ℕ
   pub few : length faulty ≤ 2 * s .margin
-  pub voted : (t : Moment) (ab : List ℕ) (a : Announcement) (sb : List ℕ) → t ∈ calls → Performed t s ab a sb
+  pub others : (t : Moment) (ab : List ℕ) (a : Announcement) (sb : List ℕ) → t ∈ calls → Performed t s ab a sb
       → (i : ℕ) → counts (rowsOf sb) i (seatAt i (s .seats)) ≡ true
-      → List·Memᴰ i faulty ⊎ ((u : Moment) × VoteOf calls i (seatAt i (s .seats) .life) (s .cycle .0) ab u)
-  pub steady : (i : ℕ) → List·Memᴰ i faulty ⊎ Steady calls i (seatAt i (s .seats) .life) (s .cycle .0)
+      → List·Memᴰ i faulty ⊎ HonestVote calls i (seatAt i (s .seats) .life) (s .cycle .0) ab
 
--- So the bound holds, and with it agreement and ended.
+-- Where that is so in every state from which an announcement is performed, the bound holds, and with it agreement and ended.
 abbrev pub Earned : Type 0
-Earned = (first : List ℕ) (calls : History) → Park first calls → ((s : State) → Honest calls s) → EquivocationBound calls × (Agreement calls × Ended calls)
+Earned = (first : List ℕ) (calls : History) → Park first calls → ((s : State) (a : Announcement) → Step calls s a → Honest calls s)
+    → EquivocationBound calls × (Agreement calls × Ended calls)
 
 -- ---- why the votes of an honest seat must be steady: one seat, margin 0, quorum 1 (`first 0` of Tight)
 

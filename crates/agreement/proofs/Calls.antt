@@ -55,7 +55,7 @@ returned-zero r out x (writes l w e) z = sym (ap (λ (y : Returned). y .number) 
 returned-zero r out x (leaves n p e) z = sym (ap (λ (y : Returned). y .number) e) ∙ z
 
 -- the front of a slice that bytes were written to
-front : (bytes out : List ℕ) (n : ℕ) → length bytes ≡ n → take n (overwrite bytes out) ≡ bytes
+pub front : (bytes out : List ℕ) (n : ℕ) → length bytes ≡ n → take n (overwrite bytes out) ≡ bytes
 unfolding overwrite
 front bytes out n e = take-at bytes (drop (length bytes) out) n e
 

@@ -35,9 +35,14 @@ calls-at-hosts = tt
 
 -- ---- of every call of a list
 
-abbrev Each : (Call → Type 0) → History → Type 0
+abbrev pub Each : (Call → Type 0) → History → Type 0
 Each P [] = Unit {0}
 Each P (c ∷ cs) = P c × Each P cs
+
+pub each-of : (p : Call → Bool) (cs : History) → all p cs ≡ true → Each (λ c. p c ≡ true) cs
+unfolding all
+each-of p [] e = tt
+each-of p (c ∷ cs) e = let t = and-eq-true-iff (p c) (all p cs) .0 e in (t .0, each-of p cs (t .1))
 
 each : (P : Call → Type 0) (w : Cluster) (cs : History) → Each P cs → (t : Moment) → List·Memᴰ t (momentsFrom w cs) → P (t .call)
 unfolding momentsFrom
@@ -79,21 +84,18 @@ FromFirst first (deliver h ab sb out) = Unit {0}
 FromFirst first (query h qb out) = Unit {0}
 FromFirst first (checkpoint h out) = Unit {0}
 
+-- So the list is one of a park.
+pub park : (first : List ℕ) (calls : History) → isBytes first ≡ true → isCheckpoint first ≡ true → all holdsBytes calls ≡ true → Each (FromFirst first) calls → Park first calls
+park first calls k c b f = record {
+  first-bytes = bytes first k;
+  first-checkpoint = c;
+  bytes = λ t m. holds-bytes (t .call) (each (λ c. holdsBytes c ≡ true) empty calls (each-of holdsBytes calls b) t m);
+  starts = λ t m h cb rb out e a. inl (subst (FromFirst first) e (each (FromFirst first) empty calls f t m));
+}
+
 first-accepted : isCheckpoint firstCheckpoint ≡ true
 unfolding calls-by-value
 first-accepted = refl
-
-first-is-bytes : isBytes firstCheckpoint ≡ true
-unfolding all
-first-is-bytes = refl
-
-park : (calls : History) → Each (λ c. holdsBytes c ≡ true) calls → Each (FromFirst firstCheckpoint) calls → Park firstCheckpoint calls
-park calls b f = record {
-  first-bytes = bytes firstCheckpoint first-is-bytes;
-  first-checkpoint = first-accepted;
-  bytes = λ t m. holds-bytes (t .call) (each (λ c. holdsBytes c ≡ true) empty calls b t m);
-  starts = λ t m h cb rb out e a. inl (subst (FromFirst firstCheckpoint) e (each (FromFirst firstCheckpoint) empty calls f t m));
-}
 
 -- ---- one announcement to a cycle
 
@@ -115,7 +117,7 @@ bounded calls g k d t u i j s ab bb a b asb bsb p q n =
 
 peaceful-park : Park firstCheckpoint peaceful
 unfolding all
-peaceful-park = park peaceful (refl, (refl, (refl, (refl, (refl, (refl, tt)))))) (refl, (refl, (tt, (tt, (tt, (tt, tt))))))
+peaceful-park = park firstCheckpoint peaceful refl first-accepted refl (refl, (refl, (tt, (tt, (tt, (tt, tt))))))
 
 announced : ℕ → List ℕ
 announced c = cond (eqb c 1) (grantTo 120) endLogin
@@ -147,7 +149,7 @@ divided-answered = refl
 
 divided-park : Park firstCheckpoint divided
 unfolding all
-divided-park = park divided (refl, (refl, (refl, (refl, tt)))) (refl, (refl, (tt, (tt, tt))))
+divided-park = park firstCheckpoint divided refl first-accepted refl (refl, (refl, (tt, (tt, tt))))
 
 split : ¬ Agreement divided
 unfolding calls-at-hosts

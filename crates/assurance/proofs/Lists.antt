@@ -38,12 +38,20 @@ no-more true c = omega arith
 no-more false true = omega arith
 no-more false false = omega arith
 
+-- A test that passes wherever another does counts at least as many elements.
+pub count-among : {A : Type 0} (p q : ℕ → A → Bool) → ((i : ℕ) (x : A) → p i x ≡ true → q i x ≡ true) → (i : ℕ) (xs : List A) → countFrom p i xs ≤ countFrom q i xs
+unfolding countFrom
+count-among p q h i [] = omega arith
+count-among p q h i (x ∷ xs) = omega (arith, one (p i x) (q i x) (h i x), count-among p q h (suc i) xs)
+  where
+    one : (a b : Bool) → (a ≡ true → b ≡ true) → cond a 1 0 ≤ cond b 1 0
+    one false b f = omega arith
+    one true b f = rw (f refl) (omega arith)
+
 module _ {A : Type 0} where
-  -- No more elements pass two tests than one of them.
+  -- So no more elements pass two tests than one of them.
   pub fewer : (q p : ℕ → A → Bool) (i : ℕ) (xs : List A) → countFrom (λ j x. q j x && p j x) i xs ≤ countFrom p i xs
-  unfolding countFrom
-  fewer q p i [] = omega arith
-  fewer q p i (x ∷ xs) = omega (arith, fewer q p (suc i) xs, no-more (q i x) (p i x))
+  fewer q p i xs = count-among (λ j x. q j x && p j x) p (λ j x e. and-eq-true-iff (q j x) (p j x) .0 e .1) i xs
 
   -- the test, but not at index v
   abbrev but : ℕ → (ℕ → A → Bool) → ℕ → A → Bool

@@ -1,13 +1,12 @@
 -- Sheets with at least the mask bits and rows of another count at least as many trustees and seats.
 use mathlib.Core.Path.{_≡_, refl, sym, ap, _∙_}
-use mathlib.Core.Bool.{Bool, true, false, cond, not}
-use mathlib.Core.List.{List, [], _∷_}
+use mathlib.Core.Bool.{Bool, true, false, not}
+use mathlib.Core.List.{List}
 use Prim.Native.Nat.{ℕ, zero, suc, _*_, _^_, _/_, _%_, _≤_}
 use native.Mathlib.Nat.{div-one, div-div-eq-div-mul, pow-succ'}
 use native.Mathlib.Omega.{arith}
 use lib.Dec.{eqb}
 use borrow.Author.Tests.{eqb-true, eqb-false, ltb-true, lt-ltb, not-false}
-use Rattle.lists.specs.Fold.{countFrom}
 use Rattle.state.specs.declared.Day.{Day}
 use Rattle.state.specs.declared.Seat.{Seat}
 use Rattle.state.specs.declared.State.{State}
@@ -18,6 +17,7 @@ use Rattle.records.specs.Sheet.{rowsOf, counts, countedSeats}
 use Rattle.records.proofs.Counts.{counts-listed-life}
 use Rattle.actions.specs.Rules.{trusteeRefusal, actionRefusal, _orElse_}
 use Rattle.actions.proofs.Refusals.{passes-rule}
+use Rattle.assurance.proofs.Lists.{count-among}
 use Rattle.assurance.specs.Interference.{RowsAmong, TrusteesAmong}
 
 -- ---- masks
@@ -75,16 +75,6 @@ still-counts : (sb tb : List ℕ) → RowsAmong sb tb → (i : ℕ) (x : Seat) �
 still-counts sb tb h i x e =
     let c = counts-listed-life (rowsOf sb) i x .0 e in
     counts-listed-life (rowsOf tb) i x .1 (record { standing = c .standing; row = c .row; listed = h (c .row) (c .listed); seat = c .seat; life = c .life })
-
--- a test that passes wherever another does counts as many elements at least
-count-among : {A : Type 0} (p q : ℕ → A → Bool) → ((i : ℕ) (x : A) → p i x ≡ true → q i x ≡ true) → (i : ℕ) (xs : List A) → countFrom p i xs ≤ countFrom q i xs
-unfolding countFrom
-count-among p q h i [] = omega arith
-count-among p q h i (x ∷ xs) = omega (arith, one (p i x) (q i x) (h i x), count-among p q h (suc i) xs)
-  where
-    one : (a b : Bool) → (a ≡ true → b ≡ true) → cond a 1 0 ≤ cond b 1 0
-    one false b f = omega arith
-    one true b f = rw (f refl) (omega arith)
 
 pub seats-among : (sb tb : List ℕ) → RowsAmong sb tb → (seats : List Seat) → countedSeats (rowsOf sb) seats ≤ countedSeats (rowsOf tb) seats
 unfolding countedSeats

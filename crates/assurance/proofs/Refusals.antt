@@ -7,8 +7,7 @@ use mathlib.Core.Option.{Option, none, some, Option·some-injective}
 use Prim.Native.Nat.{ℕ}
 use native.Mathlib.Omega.{arith}
 use lib.Dec.{eqb, leb}
-use lib.ListN.{length, take, drop}
-use lib.Seq.{take-at}
+use lib.ListN.{length, take}
 use borrow.Author.Tests.{eqb-true, eq-eqb, ne-eqb}
 use Rattle.lists.proofs.Tests.{cond-cases}
 use Rattle.binary.specs.Number.{overwrite}
@@ -30,6 +29,7 @@ use Rattle.node_c.specs.Calls.{HandedBack, started, delivered, asked, Returned,
 use Rattle.node_c.specs.Claims.{Writes, Returning, no-room, writes, leaves}
 use Rattle.node_c.proofs.Calls.{calls-return, writes-to, leaves-to, image-ok}
 use Rattle.agreement.specs.History.{byValue, throughC, start, deliver, query, checkpoint, Cluster, Outcome, onNode, keepImage, onHeldImage, keepCheckpoint, checkpointNode, checkpointImage, run}
+use Rattle.agreement.proofs.Calls.{front}
 use Rattle.assurance.specs.Refusals.{Refusal, AddsMiss, Unchanged, RefusalsChangeNothing, oneMissMore, MissedByValue, MissedThroughC, MissesAddOne, KeepsSlice, SlicesKept}
 use Rattle.assurance.proofs.Length.{missed-size}
 
@@ -234,11 +234,6 @@ missed-node w i k qb m (some n) e a =
       images = λ j. refl;
       given = refl;
     }
-
--- the front of a slice that bytes were written to
-front : (bytes out : List ℕ) (n : ℕ) → length bytes ≡ n → take n (overwrite bytes out) ≡ bytes
-unfolding overwrite
-front bytes out n e = take-at bytes (drop (length bytes) out) n e
 
 -- a query through C: the front of the slice is the image
 missed-image : (w : Cluster) (i k : ℕ) (qb out : List ℕ) → AddsMiss k → (o : Option (List ℕ)) → w .images i ≡ o

@@ -1,6 +1,5 @@
 -- One computed test of the histories of all margins, and what it tells of each.
 use mathlib.Core.Path.{_≡_, refl, sym, ap, _∙_, subst}
-use mathlib.Core.Logic.{inl}
 use mathlib.Core.Bool.{Bool, true, false, not, _&&_, and-eq-true-iff, false≢true}
 use mathlib.Core.List.{List, [], _∷_, List·Memᴰ·head, List·Memᴰ·tail, map}
 use mathlib.Core.Option.{Option, none, some}
@@ -12,7 +11,7 @@ use lib.ListN.{length, replicate}
 use borrow.Author.Tests.{eqb-true, eqb-false, leb-true, not-true}
 use Rattle.lists.specs.Fold.{all}
 use Rattle.lists.proofs.Every as Every
-use Rattle.lists.proofs.Every.{All, more, all-of}
+use Rattle.lists.proofs.Every.{All, all-of}
 use Rattle.state.specs.Time.{cycle}
 use Rattle.state.specs.Seats.{presentSeats}
 use Rattle.records.specs.Sheet.{rowsOf, counts, countedSeats, countedOnBoth}
@@ -22,27 +21,16 @@ use Rattle.node.specs.declared.Node.{Node}
 use Rattle.node.specs.Own.{isSameBytes}
 use Rattle.node.proofs.Deliver.{same-bytes}
 use Rattle.agreement.specs.History.{Host, byValue, throughC, Call, start, deliver, query, checkpoint, History, Cluster, empty, nodeAt, Moment, momentsFrom, moments, answer, after}
-use Rattle.agreement.specs.Claims.{_∈_, Park, Agreement, runAll}
-use Rattle.agreement.proofs.NotIdle.{isBytes, bytes, holdsBytes, holds-bytes, FromFirst, calls-at-hosts}
+use Rattle.agreement.specs.Claims.{_∈_, Agreement, runAll}
+use Rattle.agreement.proofs.NotIdle.{calls-at-hosts, Each, isBytes, holdsBytes, FromFirst, park}
 use Rattle.assurance.specs.Sheets.{sheetOf}
 use Rattle.assurance.specs.Tight.{firstState, first, rowsBelow, fullSheet, divided, LooserBound, BeyondByOne, BoundIsTight}
 use Rattle.assurance.proofs.Lists.{all-in, fewer}
 
 -- ---- the starts are from the first checkpoint
 
-from-first : (m : ℕ) → All (λ t. FromFirst (first m) (t .call)) (moments (divided m))
-unfolding momentsFrom
-from-first m = more refl (more refl (more tt (more tt Every.none)))
-
--- so the list is one of a park
-pub park-of : (first : List ℕ) (calls : History) → isBytes first ≡ true → isCheckpoint first ≡ true → all (λ t. holdsBytes (t .call)) (moments calls) ≡ true
-    → All (λ t. FromFirst first (t .call)) (moments calls) → Park first calls
-park-of first calls b c h f = record {
-  first-bytes = bytes first b;
-  first-checkpoint = c;
-  bytes = λ u i. holds-bytes (u .call) (all-in (all-of _ (moments calls) h) i);
-  starts = λ u i h cb rb out c a. inl (subst (FromFirst first) c (all-in f i));
-}
+from-first : (m : ℕ) → Each (FromFirst (first m)) (divided m)
+from-first m = (refl, (refl, (tt, (tt, tt))))
 
 -- ---- every call is answered 0
 
@@ -103,7 +91,7 @@ unfoldable test : ℕ → Bool
 test m =
     isBytes (first m)
     && (isCheckpoint (first m)
-    && (all (λ t. holdsBytes (t .call)) (moments (divided m))
+    && (all holdsBytes (divided m)
     && (all isDone (map answer (moments (divided m)))
     && (eqb (doubleVoters m) (2 * m + 1)
     && (all (λ t. findsFew (t .before) (t .call)) (moments (divided m))
@@ -115,7 +103,7 @@ unfolding test momentsFrom runAll
 tested m e =
     let t = simp and-eq-true-iff at e in
     record {
-      park = park-of (first m) (divided m) (t .0) (t .1 .0) (t .1 .1 .0) (from-first m);
+      park = park (first m) (divided m) (t .0) (t .1 .0) (t .1 .1 .0) (from-first m);
       performed = done (map answer (moments (divided m))) (t .1 .1 .1 .0);
       double-voters = eqb-true _ _ (t .1 .1 .1 .1 .0);
       looser-bound = looser-bound (divided m) (all-of _ (moments (divided m)) (t .1 .1 .1 .1 .1 .0));

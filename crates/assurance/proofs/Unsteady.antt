@@ -6,18 +6,17 @@ use mathlib.Core.Option.{some}
 use Prim.Native.Nat.{ℕ}
 use Rattle.lists.specs.Fold.{all}
 use Rattle.lists.proofs.Every as Every
-use Rattle.lists.proofs.Every.{All, more}
 use Rattle.checkpoint.specs.Checkpoint.{isCheckpoint}
 use Rattle.node.specs.declared.Node.{Node}
 use Rattle.node.specs.Start.{startOf}
 use Rattle.marked_examples.specs.Records.{grantTo}
-use Rattle.agreement.specs.History.{Host, byValue, History, empty, nodeAt, Moment, momentsFrom, moments, answer}
+use Rattle.agreement.specs.History.{Host, byValue, History, empty, nodeAt, Moment, answer}
 use Rattle.agreement.specs.Claims.{_∈_, runAll}
-use Rattle.agreement.proofs.NotIdle.{isBytes, holdsBytes, FromFirst, calls-at-hosts}
+use Rattle.agreement.proofs.NotIdle.{calls-at-hosts, isBytes, holdsBytes, park}
 use Rattle.assurance.specs.Sheets.{sheetOf}
 use Rattle.assurance.specs.Tight.{first, startSeat, rowsBelow}
 use Rattle.assurance.specs.Earned.{VoteOf, startAt, asked, restarted, twoHosts, RestartSplits, TwoHostsSplit}
-use Rattle.assurance.proofs.Tight.{park-of, split}
+use Rattle.assurance.proofs.Tight.{split}
 
 first-bytes : isBytes (first 0) ≡ true
 unfolding calls-at-hosts
@@ -54,13 +53,9 @@ vote calls earlier h end m held answered = (
 
 -- ---- the host is started again
 
-restarted-bytes : all (λ t. holdsBytes (t .call)) (moments restarted) ≡ true
+restarted-bytes : all holdsBytes restarted ≡ true
 unfolding calls-at-hosts sheetOf rowsBelow
 restarted-bytes = refl
-
-restarted-from : All (λ t. FromFirst (first 0) (t .call)) (moments restarted)
-unfolding momentsFrom
-restarted-from = more refl (more tt (more refl (more tt (more tt (more refl (more tt Every.none))))))
 
 pub restart-splits : RestartSplits
 unfolding calls-at-hosts runAll sheetOf rowsBelow asking voter
@@ -69,7 +64,7 @@ restart-splits =
     let fifth = List·Memᴰ·tail (List·Memᴰ·tail (List·Memᴰ·tail (List·Memᴰ·tail (List·Memᴰ·head refl)))) in
     let seventh = List·Memᴰ·tail (List·Memᴰ·tail (List·Memᴰ·tail (List·Memᴰ·tail (List·Memᴰ·tail (List·Memᴰ·tail (List·Memᴰ·head refl)))))) in
     record {
-      park = park-of (first 0) restarted first-bytes first-checkpoint restarted-bytes restarted-from;
+      park = park (first 0) restarted first-bytes first-checkpoint restarted-bytes (refl, (tt, (refl, (tt, (tt, (refl, (tt, tt)))))));
       answered = refl;
       rows = refl;
       one = vote restarted (startAt h ∷ []) h 120 (List·Memᴰ·tail (List·Memᴰ·head refl)) refl refl;
@@ -79,13 +74,9 @@ restart-splits =
 
 -- ---- two hosts are started at one seat and life
 
-hosts-bytes : all (λ t. holdsBytes (t .call)) (moments twoHosts) ≡ true
+hosts-bytes : all holdsBytes twoHosts ≡ true
 unfolding calls-at-hosts sheetOf rowsBelow
 hosts-bytes = refl
-
-hosts-from : All (λ t. FromFirst (first 0) (t .call)) (moments twoHosts)
-unfolding momentsFrom
-hosts-from = more refl (more refl (more tt (more tt (more tt (more tt Every.none)))))
 
 pub two-hosts-split : TwoHostsSplit
 unfolding calls-at-hosts runAll sheetOf rowsBelow asking voter
@@ -95,7 +86,7 @@ two-hosts-split =
     let third = List·Memᴰ·tail (List·Memᴰ·tail (List·Memᴰ·head refl)) in
     let sixth = List·Memᴰ·tail (List·Memᴰ·tail (List·Memᴰ·tail (List·Memᴰ·tail (List·Memᴰ·tail (List·Memᴰ·head refl))))) in
     record {
-      park = park-of (first 0) twoHosts first-bytes first-checkpoint hosts-bytes hosts-from;
+      park = park (first 0) twoHosts first-bytes first-checkpoint hosts-bytes (refl, (refl, (tt, (tt, (tt, (tt, tt))))));
       answered = refl;
       rows = refl;
       one = vote twoHosts (startAt g ∷ startAt h ∷ []) g 120 third refl refl;

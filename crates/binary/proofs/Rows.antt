@@ -4,10 +4,14 @@ use native.Mathlib.Nat.{suc-mul, zero-mul, add-comm}
 use native.Mathlib.Numerals.{add-one}
 use native.Mathlib.Omega.{arith}
 use mathlib.Core.Path.{_≡_, refl, sym, ap, _∙_}
-use mathlib.Core.Bool.{Bool}
+use mathlib.Core.Bool.{Bool, true, false, _&&_}
 use mathlib.Core.List.{List, [], _∷_, _++_, append-assoc, append-nil}
+use lib.Dec.{leb}
 use lib.ListN.{length, getD, set, take, drop, length-append, length-set}
 use lib.Seq.{take-suc-set, take-suc, take-all, drop-drop, length-take-le}
+use Rattle.lists.specs.Fold.{all}
+use Rattle.lists.specs.Table.{leading}
+use Rattle.lists.proofs.Loops.{all-pass, all-fail, all-end, leading-pass, leading-fail, leading-end}
 use Rattle.binary.specs.Codec.{Codec, encodeRows, decodeRows}
 use Rattle.binary.specs.Splice.{splice}
 use Rattle.binary.proofs.Splices.{splice-splice, splice-none}
@@ -53,6 +57,36 @@ module _ {A : Type 0} (f : Codec A) where
   unfolding decodeRows
   length-decodeRows zero b = refl
   length-decodeRows (suc n) b = ap suc (length-decodeRows n (drop (f .width) b))
+
+  -- loops that test the rows of a table where they lie, from index `at` of s on: the turn at row i, which is x, and the end
+  module _ (n : ℕ) (s : List ℕ) (at i : ℕ) (d : A) (p : A → Bool) where
+    abbrev table : List A
+    table = decodeRows f n (drop at s)
+
+    inside : i < n → i < length table
+    inside h = rw length-decodeRows h
+
+    outside : n ≤ i → length table ≤ i
+    outside h = rw length-decodeRows h
+
+    module _ (x : A) (h : i < n) (e : x ≡ f .decode (drop (at + i * f .width) s)) where
+      pub all-row : (t : Bool) → t ≡ p x → t ≡ true → all p (drop i table) ≡ all p (drop (i + 1) table)
+      all-row t q k = all-pass p table i d (inside h) (row-test n s at i d p x t h e q ∙ k)
+
+      pub not-row : (t : Bool) → t ≡ p x → t ≡ false → all p (drop i table) ≡ false
+      not-row t q k = all-fail p table i d (inside h) (row-test n s at i d p x t h e q ∙ k)
+
+      pub lead-row : (key : A → ℕ) (lo : ℕ) → (leb lo (key x) && p x) ≡ true → leading p key lo (drop i table) ≡ 1 + leading p key (key x + 1) (drop (i + 1) table)
+      lead-row key lo = rw (row-at n s at i d h ∙ sym e) at (leading-pass p key table i lo d (inside h))
+
+      pub last-row : (key : A → ℕ) (lo : ℕ) → (leb lo (key x) && p x) ≡ false → leading p key lo (drop i table) ≡ 0
+      last-row key lo = rw (row-at n s at i d h ∙ sym e) at (leading-fail p key table i lo d (inside h))
+
+    pub all-rows : n ≤ i → all p (drop i table) ≡ true
+    all-rows h = all-end p table i (outside h)
+
+    pub no-lead : (key : A → ℕ) (lo : ℕ) → n ≤ i → leading p key lo (drop i table) ≡ 0
+    no-lead key lo h = leading-end p key table i lo (outside h)
 
   -- the first i of the n rows in b are read into a table
   pub record RowsRead (n : ℕ) (b : List ℕ) (i : ℕ) (table : List A) : Type 0 where

@@ -31,7 +31,7 @@ same-bytes (x ∷ xs) = rw (eq-eqb x x refl) (same-bytes xs)
 may-vote : (n : Node) → canVote n ≡ true → MayVote n
 may-vote n e = let t = simp and-eq-true-iff at e in record { standing = eqb-true _ _ (t .0); life = eqb-true _ _ (t .1) }
 
-pub can-vote : (n : Node) → MayVote n → canVote n ≡ true
+can-vote : (n : Node) → MayVote n → canVote n ≡ true
 can-vote n m = rw (eq-eqb _ _ (m .standing), eq-eqb _ _ (m .life))
 
 module _ (n : Node) (ab sb : List ℕ) where

@@ -1,10 +1,9 @@
-use Prim.Native.Nat.{_-_, _≤_, _<_}
+use Prim.Native.Nat.{_-_}
 use mathlib.Core.Path.{_≡_, refl, sym, _∙_}
 use denote.Ref.{now}
-use lib.ListN.{length, drop}
+use lib.ListN.{drop}
 use Rattle.lists.specs.Fold.{all}
-use Rattle.lists.proofs.Loops.{all-pass, all-fail, all-end}
-use Rattle.binary.proofs.Rows.{row-test, length-decodeRows}
+use Rattle.binary.proofs.Rows.{all-row, not-row, all-rows}
 use Rattle.state.specs.Seats.{freeSeat}
 use Rattle.state.specs.WellFormed.{isWellFormedSeat}
 use Rattle.checkpoint.specs.Format.{seat}
@@ -43,26 +42,19 @@ loop-less c = search needs
 loop-again : tie.Need-loop-again Inv-loop μ-loop
 loop-again c =
     let l = c .before .before .before .before in
-    let b = now (l .before .before .args .b) in
-    let h = c .before .before .before .loop-test .taken in
-    let k : l .loop .i < length (seatsIn b) = rw (length-decodeRows seat 32) h in
-    let t = row-test seat 32 b 18 (l .loop .i) freeSeat isWellFormedSeat _ _ h (c .before .before .seat-at .ensures) (c .before .is-well-formed .ensures) in
-    l .loop .inv ∙ all-pass isWellFormedSeat (seatsIn b) (l .loop .i) freeSeat k (t ∙ c .if1 .taken)
+    let step = all-row seat 32 (now (l .before .before .args .b)) 18 (l .loop .i) freeSeat isWellFormedSeat _ (c .before .before .before .loop-test .taken) (c .before .before .seat-at .ensures) _ (c .before .is-well-formed .ensures) (c .if1 .taken) in
+    l .loop .inv ∙ step
 
 returns : tie.Need-returns Inv-loop μ-loop
 returns c =
     let l = c .before .before .before .before in
-    let b = now (l .before .before .args .b) in
-    let h = c .before .before .before .loop-test .taken in
-    let k : l .loop .i < length (seatsIn b) = rw (length-decodeRows seat 32) h in
-    let t = row-test seat 32 b 18 (l .loop .i) freeSeat isWellFormedSeat _ _ h (c .before .before .seat-at .ensures) (c .before .is-well-formed .ensures) in
-    sym (l .loop .inv ∙ all-fail isWellFormedSeat (seatsIn b) (l .loop .i) freeSeat k (t ∙ c .if1 .left))
+    let step = not-row seat 32 (now (l .before .before .args .b)) 18 (l .loop .i) freeSeat isWellFormedSeat _ (c .before .before .before .loop-test .taken) (c .before .before .seat-at .ensures) _ (c .before .is-well-formed .ensures) (c .if1 .left) in
+    sym (l .loop .inv ∙ step)
 
 returns-2 : tie.Need-returns-2 Inv-loop μ-loop
 returns-2 c =
-    let b = now (c .before .before .before .args .b) in
-    let k : length (seatsIn b) ≤ c .before .loop .i = rw (length-decodeRows seat 32) (c .loop-test .left) in
-    sym (c .before .loop .inv ∙ all-end isWellFormedSeat (seatsIn b) (c .before .loop .i) k)
+    let l = c .before in
+    sym (l .loop .inv ∙ all-rows seat 32 (now (l .before .before .args .b)) 18 (l .loop .i) freeSeat isWellFormedSeat (c .loop-test .left))
 
 pub are-well-formed-seats-spec : {M : Type 1} → statement M
 are-well-formed-seats-spec =

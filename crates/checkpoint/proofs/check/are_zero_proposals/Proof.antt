@@ -1,10 +1,9 @@
-use Prim.Native.Nat.{_-_, _≤_, _<_}
+use Prim.Native.Nat.{_-_, _≤_}
 use mathlib.Core.Path.{_≡_, refl, sym, _∙_}
 use denote.Ref.{now}
-use lib.ListN.{length, drop}
+use lib.ListN.{drop}
 use Rattle.lists.specs.Fold.{all}
-use Rattle.lists.proofs.Loops.{all-pass, all-fail, all-end}
-use Rattle.binary.proofs.Rows.{row-test, length-decodeRows}
+use Rattle.binary.proofs.Rows.{all-row, not-row, all-rows}
 use Rattle.state.specs.Proposals.{noProposal}
 use Rattle.state.specs.WellFormed.{isZeroProposal}
 use Rattle.checkpoint.specs.Format.{proposal}
@@ -43,26 +42,19 @@ loop-less c = search needs
 loop-again : tie.Need-loop-again Inv-loop μ-loop
 loop-again c =
     let l = c .before .before .before .before in
-    let b = now (l .before .before .args .b) in
-    let h = c .before .before .before .loop-test .taken in
-    let k : l .loop .i < length (proposalsIn b) = rw (length-decodeRows proposal 16) h in
-    let t = row-test proposal 16 b 179 (l .loop .i) noProposal isZeroProposal _ _ h (c .before .before .proposal-at .ensures) (c .before .is-zero .ensures) in
-    (search needs, l .loop .inv .1 ∙ all-pass isZeroProposal (proposalsIn b) (l .loop .i) noProposal k (t ∙ c .if1 .taken))
+    let step = all-row proposal 16 (now (l .before .before .args .b)) 179 (l .loop .i) noProposal isZeroProposal _ (c .before .before .before .loop-test .taken) (c .before .before .proposal-at .ensures) _ (c .before .is-zero .ensures) (c .if1 .taken) in
+    (search needs, l .loop .inv .1 ∙ step)
 
 returns : tie.Need-returns Inv-loop μ-loop
 returns c =
     let l = c .before .before .before .before in
-    let b = now (l .before .before .args .b) in
-    let h = c .before .before .before .loop-test .taken in
-    let k : l .loop .i < length (proposalsIn b) = rw (length-decodeRows proposal 16) h in
-    let t = row-test proposal 16 b 179 (l .loop .i) noProposal isZeroProposal _ _ h (c .before .before .proposal-at .ensures) (c .before .is-zero .ensures) in
-    sym (l .loop .inv .1 ∙ all-fail isZeroProposal (proposalsIn b) (l .loop .i) noProposal k (t ∙ c .if1 .left))
+    let step = not-row proposal 16 (now (l .before .before .args .b)) 179 (l .loop .i) noProposal isZeroProposal _ (c .before .before .before .loop-test .taken) (c .before .before .proposal-at .ensures) _ (c .before .is-zero .ensures) (c .if1 .left) in
+    sym (l .loop .inv .1 ∙ step)
 
 returns-2 : tie.Need-returns-2 Inv-loop μ-loop
 returns-2 c =
-    let b = now (c .before .before .before .args .b) in
-    let k : length (proposalsIn b) ≤ c .before .loop .i = rw (length-decodeRows proposal 16) (c .loop-test .left) in
-    sym (c .before .loop .inv .1 ∙ all-end isZeroProposal (proposalsIn b) (c .before .loop .i) k)
+    let l = c .before in
+    sym (l .loop .inv .1 ∙ all-rows proposal 16 (now (l .before .before .args .b)) 179 (l .loop .i) noProposal isZeroProposal (c .loop-test .left))
 
 pub are-zero-proposals-spec : {M : Type 1} → statement M
 are-zero-proposals-spec =

@@ -1,11 +1,10 @@
-use Prim.Native.Nat.{_+_, _-_, _≤_, _<_}
-use mathlib.Core.Path.{_≡_, sym, _∙_}
+use Prim.Native.Nat.{_+_, _-_, _≤_}
+use mathlib.Core.Path.{_≡_}
 use native.Mathlib.Omega.{arith}
 use denote.Ref.{now}
-use lib.ListN.{length, drop}
+use lib.ListN.{drop}
 use Rattle.lists.specs.Table.{leading}
-use Rattle.lists.proofs.Loops.{leading-pass, leading-fail, leading-end}
-use Rattle.binary.proofs.Rows.{row-at, length-decodeRows}
+use Rattle.binary.proofs.Rows.{lead-row, last-row, no-lead}
 use Rattle.state.specs.Logins.{noLogin}
 use Rattle.state.specs.WellFormed.{isGranted}
 use Rattle.checkpoint.specs.Format.{login}
@@ -51,28 +50,21 @@ loop-again : tie.Need-loop-again Inv-loop μ-loop
 loop-again c =
     let l = c .before .before .before .before .before in
     let b = now (l .before .before .args .b) in
-    let h = c .before .before .before .before .loop-test .taken in
-    let k : l .loop .i < length (loginsIn b) = rw (length-decodeRows login 64) h in
-    let e = row-at login 64 b 468 (l .loop .i) noLogin h ∙ sym (c .before .before .before .login-at .ensures) in
-    let s = rw e at (leading-pass isGranted (λ r. r .login) (loginsIn b) (l .loop .i) (l .loop .lo) noLogin k) in
-    (omega arith, (search needs, omega (arith, s (rw (c .before .is-granted .ensures) at (c .if1 .taken)))))
+    let step = lead-row login 64 b 468 (l .loop .i) noLogin isGranted _ (c .before .before .before .before .loop-test .taken) (c .before .before .before .login-at .ensures) (λ r. r .login) (l .loop .lo) in
+    (omega arith, (search needs, omega (arith, step (rw (c .before .is-granted .ensures) at (c .if1 .taken)))))
 
 returns : tie.Need-returns Inv-loop μ-loop
 returns c =
     let l = c .before .before .before .before .before in
     let b = now (l .before .before .args .b) in
-    let h = c .before .before .before .before .loop-test .taken in
-    let k : l .loop .i < length (loginsIn b) = rw (length-decodeRows login 64) h in
-    let e = row-at login 64 b 468 (l .loop .i) noLogin h ∙ sym (c .before .before .before .login-at .ensures) in
-    let s = rw e at (leading-fail isGranted (λ r. r .login) (loginsIn b) (l .loop .i) (l .loop .lo) noLogin k) in
-    (omega (arith, s (rw (c .before .is-granted .ensures) at (c .if1 .left))), omega arith)
+    let step = last-row login 64 b 468 (l .loop .i) noLogin isGranted _ (c .before .before .before .before .loop-test .taken) (c .before .before .before .login-at .ensures) (λ r. r .login) (l .loop .lo) in
+    (omega (arith, step (rw (c .before .is-granted .ensures) at (c .if1 .left))), omega arith)
 
 returns-2 : tie.Need-returns-2 Inv-loop μ-loop
 returns-2 c =
     let l = c .before in
     let b = now (l .before .before .args .b) in
-    let k : length (loginsIn b) ≤ l .loop .i = rw (length-decodeRows login 64) (c .loop-test .left) in
-    (omega (arith, leading-end isGranted (λ r. r .login) (loginsIn b) (l .loop .i) (l .loop .lo) k), omega arith)
+    (omega (arith, no-lead login 64 b 468 (l .loop .i) noLogin isGranted (λ r. r .login) (l .loop .lo) (c .loop-test .left)), omega arith)
 
 pub leading-logins-spec : {M : Type 1} → statement M
 leading-logins-spec =

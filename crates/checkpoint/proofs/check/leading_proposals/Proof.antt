@@ -1,11 +1,10 @@
-use Prim.Native.Nat.{_+_, _-_, _≤_, _<_}
-use mathlib.Core.Path.{_≡_, sym, _∙_}
+use Prim.Native.Nat.{_+_, _-_, _≤_}
+use mathlib.Core.Path.{_≡_}
 use native.Mathlib.Omega.{arith}
 use denote.Ref.{now}
-use lib.ListN.{length, drop}
+use lib.ListN.{drop}
 use Rattle.lists.specs.Table.{leading}
-use Rattle.lists.proofs.Loops.{leading-pass, leading-fail, leading-end}
-use Rattle.binary.proofs.Rows.{row-at, length-decodeRows}
+use Rattle.binary.proofs.Rows.{lead-row, last-row, no-lead}
 use Rattle.state.specs.Proposals.{noProposal}
 use Rattle.state.specs.WellFormed.{isPending}
 use Rattle.checkpoint.specs.Format.{proposal}
@@ -52,30 +51,23 @@ loop-again c =
     let l = c .before .before .before .before .before in
     let a = l .before .before .args in
     let b = now (a .b) in
-    let h = c .before .before .before .before .loop-test .taken in
-    let k : l .loop .i < length (proposalsIn b) = rw (length-decodeRows proposal 16) h in
-    let e = row-at proposal 16 b 179 (l .loop .i) noProposal h ∙ sym (c .before .before .before .proposal-at .ensures) in
-    let s = rw e at (leading-pass (isPending (a .c) (a .d)) (λ r. r .cycle .0) (proposalsIn b) (l .loop .i) (l .loop .lo) noProposal k) in
-    (omega arith, (search needs, omega (arith, s (rw (c .before .is-pending .ensures) at (c .if1 .taken)))))
+    let step = lead-row proposal 16 b 179 (l .loop .i) noProposal (isPending (a .c) (a .d)) _ (c .before .before .before .before .loop-test .taken) (c .before .before .before .proposal-at .ensures) (λ r. r .cycle .0) (l .loop .lo) in
+    (omega arith, (search needs, omega (arith, step (rw (c .before .is-pending .ensures) at (c .if1 .taken)))))
 
 returns : tie.Need-returns Inv-loop μ-loop
 returns c =
     let l = c .before .before .before .before .before in
     let a = l .before .before .args in
     let b = now (a .b) in
-    let h = c .before .before .before .before .loop-test .taken in
-    let k : l .loop .i < length (proposalsIn b) = rw (length-decodeRows proposal 16) h in
-    let e = row-at proposal 16 b 179 (l .loop .i) noProposal h ∙ sym (c .before .before .before .proposal-at .ensures) in
-    let s = rw e at (leading-fail (isPending (a .c) (a .d)) (λ r. r .cycle .0) (proposalsIn b) (l .loop .i) (l .loop .lo) noProposal k) in
-    (omega (arith, s (rw (c .before .is-pending .ensures) at (c .if1 .left))), omega arith)
+    let step = last-row proposal 16 b 179 (l .loop .i) noProposal (isPending (a .c) (a .d)) _ (c .before .before .before .before .loop-test .taken) (c .before .before .before .proposal-at .ensures) (λ r. r .cycle .0) (l .loop .lo) in
+    (omega (arith, step (rw (c .before .is-pending .ensures) at (c .if1 .left))), omega arith)
 
 returns-2 : tie.Need-returns-2 Inv-loop μ-loop
 returns-2 c =
     let l = c .before in
     let a = l .before .before .args in
     let b = now (a .b) in
-    let k : length (proposalsIn b) ≤ l .loop .i = rw (length-decodeRows proposal 16) (c .loop-test .left) in
-    (omega (arith, leading-end (isPending (a .c) (a .d)) (λ r. r .cycle .0) (proposalsIn b) (l .loop .i) (l .loop .lo) k), omega arith)
+    (omega (arith, no-lead proposal 16 b 179 (l .loop .i) noProposal (isPending (a .c) (a .d)) (λ r. r .cycle .0) (l .loop .lo) (c .loop-test .left)), omega arith)
 
 pub leading-proposals-spec : {M : Type 1} → statement M
 leading-proposals-spec =

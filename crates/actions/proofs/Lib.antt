@@ -1,7 +1,6 @@
--- What a performed announcement leaves.
-pub mod Refusals
-pub mod Rows
+-- What a performed announcement leaves, and what the rules ask for before one is.
+pub mod FittingRows
 pub mod Sound
 pub mod Kept
-pub mod Perform
+pub mod Performed
 pub mod Admits

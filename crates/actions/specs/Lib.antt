@@ -1,4 +1,3 @@
--- What an announcement does to a state, and when it is refused.
+-- What an announcement does to a state.
 pub mod Perform
-pub mod Rules
 pub mod Claims

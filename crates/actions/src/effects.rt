@@ -2,33 +2,36 @@
 ghost use mathlib.Core.Path.{_≡_};
 ghost use mathlib.Core.Bool.{cond};
 ghost use Rattle.records.specs.declared.Action.the-variants as Action;
-ghost use Rattle.actions.specs.Perform.{restand, relive, useProposal, act, perform};
+ghost use Rattle.actions.specs.Perform.{withStanding, withLife, effect, useProposal, act, perform};
 ghost use Rattle.state.specs.Update.{withSeats, withProposals, withLogins, withMinima};
 ghost use Rattle.state.specs.Seats.{certified, present};
+ghost use Rattle.state.specs.declared.Day.{Day};
 use records::Action;
 use records::Announcement;
 use state::Cycle;
 use state::Day;
 use state::Login;
+use state::Minima;
 use state::Proposal;
 use state::Seat;
 use state::State;
-use state::login_table::end_login;
-use state::login_table::grant_login;
-use state::proposal_table::add_proposal;
-use state::proposal_table::drop_proposal;
-use state::proposal_table::mature_proposal;
-use state::seat_table::CERTIFIED;
-use state::seat_table::PRESENT;
-use state::seat_table::RETIRED;
-use state::seat_table::seat_at;
-use state::seat_table::set_seat;
-use state::subjects::certify_arguments;
-use state::subjects::minima_arguments;
-use state::subjects::remove_arguments;
+use state::Subject;
+use state::limits::LOGIN_ROWS;
+use state::limits::PROPOSAL_ROWS;
+use state::limits::SEATS;
+use state::seats::CERTIFIED;
+use state::seats::PRESENT;
+use state::seats::RETIRED;
+use state::seats::seat_at;
+use state::seats::set_seat;
+use tables::logins::end_login;
+use tables::logins::grant_login;
+use tables::proposals::add_proposal;
+use tables::proposals::drop_proposal;
+use tables::proposals::mature_proposal;
 
-// The state with these tables or numbers in place of its own.
-fn with_seats(s: State, seats: [Seat; 32]) -> State
+// The state with this table or these minima in place of its own.
+fn with_seats(s: State, seats: [Seat; SEATS]) -> State
     ensures { λ r. ⌜ r ≡ withSeats seats s ⌝ }
 {
     let mut out = s;
@@ -36,7 +39,7 @@ fn with_seats(s: State, seats: [Seat; 32]) -> State
     out
 }
 
-fn with_proposals(s: State, proposals: [Proposal; 16]) -> State
+fn with_proposals(s: State, proposals: [Proposal; PROPOSAL_ROWS]) -> State
     ensures { λ r. ⌜ r ≡ withProposals proposals s ⌝ }
 {
     let mut out = s;
@@ -44,7 +47,7 @@ fn with_proposals(s: State, proposals: [Proposal; 16]) -> State
     out
 }
 
-fn with_logins(s: State, logins: [Login; 64]) -> State
+fn with_logins(s: State, logins: [Login; LOGIN_ROWS]) -> State
     ensures { λ r. ⌜ r ≡ withLogins logins s ⌝ }
 {
     let mut out = s;
@@ -52,13 +55,11 @@ fn with_logins(s: State, logins: [Login; 64]) -> State
     out
 }
 
-fn with_minima(s: State, margin: u8, least: u8, silence: u16) -> State
-    ensures { λ r. ⌜ r ≡ withMinima margin least silence s ⌝ }
+fn with_minima(s: State, minima: Minima) -> State
+    ensures { λ r. ⌜ r ≡ withMinima minima s ⌝ }
 {
     let mut out = s;
-    out.margin = margin;
-    out.least = least;
-    out.silence = silence;
+    out.minima = minima;
     out
 }
 
@@ -70,8 +71,8 @@ fn given_standing(flag: bool) -> u8
 }
 
 // A seat with another standing.
-fn restand(s: State, i: u8, standing: u8) -> State
-    ensures { λ r. ⌜ r ≡ restand i standing s ⌝ }
+fn with_standing(s: State, i: u8, standing: u8) -> State
+    ensures { λ r. ⌜ r ≡ withStanding i standing s ⌝ }
 {
     let seats = s.seats;
     let seat = seat_at(seats, i);
@@ -79,110 +80,82 @@ fn restand(s: State, i: u8, standing: u8) -> State
 }
 
 // A seat with another life.
-fn relive(s: State, i: u8, life: u32) -> State
-    ensures { λ r. ⌜ r ≡ relive i life s ⌝ }
+fn with_life(s: State, i: u8, life: u32) -> State
+    ensures { λ r. ⌜ r ≡ withLife i life s ⌝ }
 {
     let seats = s.seats;
     let seat = seat_at(seats, i);
     with_seats(s, set_seat(seats, i, seat.standing, life))
 }
 
-// The state without the mature proposal of this subject.
-fn use_proposal(s: State, kind: u16, arguments: u64, d: Day) -> State
-    ensures { λ r. ⌜ r ≡ useProposal kind arguments d s ⌝ }
-{
-    let rows = s.proposals;
-    let used = mature_proposal(rows, kind, arguments, d);
-    with_proposals(s, drop_proposal(rows, used.cycle))
-}
-
-fn propose(s: State, d: Day, kind: u16, arguments: u64) -> State
-    ensures { λ r. ⌜ r ≡ act s d (Action.Propose kind arguments) ⌝ }
+fn propose(s: State, d: Day, subject: Subject) -> State
+    ensures { λ r. ⌜ r ≡ effect s d (Action.Propose subject) ⌝ }
 {
     let rows = s.proposals;
     let cycle = s.cycle;
     let row = Proposal {
         cycle: cycle,
         day: d,
-        kind: kind,
-        arguments: arguments,
+        subject: subject,
     };
     with_proposals(s, add_proposal(rows, row))
 }
 
-fn cancel(s: State, d: Day, cycle: Cycle) -> State
-    ensures { λ r. ⌜ r ≡ act s d (Action.Cancel cycle) ⌝ }
+fn cancel(s: State, cycle: Cycle) -> State
+    ensures { λ r. ⌜ ((d : Day) → r ≡ effect s d (Action.Cancel cycle)) ⌝ }
 {
     let rows = s.proposals;
     with_proposals(s, drop_proposal(rows, cycle))
 }
 
-fn presents(s: State, d: Day, seat: u8, flag: bool) -> State
-    ensures { λ r. ⌜ r ≡ act s d (Action.Presents seat flag) ⌝ }
-{
-    restand(s, seat, given_standing(flag))
-}
-
-fn certify(s: State, d: Day, seat: u8, life: u32) -> State
-    ensures { λ r. ⌜ r ≡ act s d (Action.Certify seat life) ⌝ }
+fn certify(s: State, seat: u8, life: u32) -> State
+    ensures { λ r. ⌜ ((d : Day) → r ≡ effect s d (Action.Certify seat life)) ⌝ }
 {
     let seats = s.seats;
-    let next = with_seats(s, set_seat(seats, seat, CERTIFIED, life));
-    use_proposal(next, 4, certify_arguments(seat, life), d)
+    with_seats(s, set_seat(seats, seat, CERTIFIED, life))
 }
 
-fn minima(s: State, d: Day, margin: u8, least: u8, silence: u16) -> State
-    ensures { λ r. ⌜ r ≡ act s d (Action.Minima margin least silence) ⌝ }
-{
-    let next = with_minima(s, margin, least, silence);
-    use_proposal(next, 5, minima_arguments(margin, least, silence), d)
-}
-
-fn remove(s: State, d: Day, seat: u8) -> State
-    ensures { λ r. ⌜ r ≡ act s d (Action.Remove seat) ⌝ }
-{
-    let next = restand(s, seat, RETIRED);
-    use_proposal(next, 6, remove_arguments(seat), d)
-}
-
-fn rejoin(s: State, d: Day, seat: u8, life: u32) -> State
-    ensures { λ r. ⌜ r ≡ act s d (Action.Rejoin seat life) ⌝ }
-{
-    relive(s, seat, life)
-}
-
-fn grant(s: State, d: Day, row: Login) -> State
-    ensures { λ r. ⌜ r ≡ act s d (Action.Grant row) ⌝ }
+fn grant(s: State, row: Login) -> State
+    ensures { λ r. ⌜ ((d : Day) → r ≡ effect s d (Action.Grant row)) ⌝ }
 {
     let rows = s.logins;
     with_logins(s, grant_login(rows, row))
 }
 
-fn end(s: State, d: Day, login: u32) -> State
-    ensures { λ r. ⌜ r ≡ act s d (Action.End login) ⌝ }
+fn end(s: State, login: u32) -> State
+    ensures { λ r. ⌜ ((d : Day) → r ≡ effect s d (Action.End login)) ⌝ }
 {
     let rows = s.logins;
     with_logins(s, end_login(rows, login))
 }
 
+// The state without the mature proposal of this subject, where there is a subject.
+fn use_proposal(s: State, subject: Subject, d: Day) -> State
+    ensures { λ r. ⌜ r ≡ useProposal subject d s ⌝ }
+{
+    if subject.kind == 0 {
+        return s;
+    }
+    let rows = s.proposals;
+    let used = mature_proposal(rows, subject, d);
+    with_proposals(s, drop_proposal(rows, used.cycle))
+}
+
 // What an action, announced on day d, does to the tables and the minima.
-pub fn act(s: State, d: Day, action: Action) -> State
+fn act(s: State, d: Day, action: Action) -> State
     ensures { λ r. ⌜ r ≡ act s d action ⌝ }
 {
+    let subject = action.subject();
     match action {
-        Action::Propose { kind, arguments } => propose(s, d, kind, arguments),
-        Action::Cancel { cycle } => cancel(s, d, cycle),
-        Action::Presents { seat, flag } => presents(s, d, seat, flag),
-        Action::Certify { seat, life } => certify(s, d, seat, life),
-        Action::Minima {
-            margin,
-            least,
-            silence,
-        } => { minima(s, d, margin, least, silence) }
-        Action::Remove { seat } => remove(s, d, seat),
-        Action::Rejoin { seat, life } => rejoin(s, d, seat, life),
-        Action::Grant { row } => grant(s, d, row),
-        Action::End { login } => end(s, d, login),
+        Action::Propose { subject: proposed } => propose(s, d, proposed),
+        Action::Cancel { cycle } => cancel(s, cycle),
+        Action::Presents { seat, flag } => with_standing(s, seat, given_standing(flag)),
+        Action::Certify { seat, life } => use_proposal(certify(s, seat, life), subject, d),
+        Action::Minima { minima } => use_proposal(with_minima(s, minima), subject, d),
+        Action::Remove { seat } => use_proposal(with_standing(s, seat, RETIRED), subject, d),
+        Action::Rejoin { seat, life } => with_life(s, seat, life),
+        Action::Grant { row } => grant(s, row),
+        Action::End { login } => end(s, login),
     }
 }
 

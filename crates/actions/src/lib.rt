@@ -1,3 +1,4 @@
-// Rules 4 to 14 and the nine actions.
-pub mod admission;
-pub mod effects;
+// The nine actions: each from a state to a state.
+mod effects;
+
+pub use effects::perform;

@@ -10,19 +10,25 @@ use lib.Dec.{eqb, leb}
 use lib.ListN.{length, take, drop}
 use lib.Seq.{take-at}
 use borrow.Author.Tests.{ne-eqb}
+use Rattle.lists.proofs.Tests.{clash}
 use Rattle.binary.specs.Number.{overwrite}
 use Rattle.checkpoint.specs.Checkpoint.{checkpointBytes}
-use Rattle.checkpoint.proofs.Checkpoint.{checkpoint-length}
+use Rattle.checkpoint.proofs.RoundTrips.{checkpoint-length}
 use Rattle.node.specs.declared.Node.{Node}
 use Rattle.node.specs.declared.CheckpointAnswer.the-variants.{Given, Refused}
 use Rattle.node.specs.Answers.{checkpointNumber}
-use Rattle.node.specs.Give.{checkpointSize, checkpointOf, checkpointSlice}
-use Rattle.node_c.specs.Image.{imageSize, imageBytes, readImage}
-use Rattle.node_c.specs.Claims.{WellFormedNode, Writes, Returning, no-room, writes, leaves}
-use Rattle.node_c.proofs.Image.{image-length}
+use Rattle.checkpoint.specs.Layout.{checkpointSize}
+use Rattle.node.specs.Checkpoint.{checkpointOf, checkpointSlice}
+use Rattle.image.specs.Layout.{imageSize}
+use Rattle.image.specs.Image.{imageBytes, readImage}
+use Rattle.node.specs.WellFormed.{WellFormedNode}
+use Rattle.node_c.specs.Claims.{Writes, Returning, no-room, writes, leaves}
+use Rattle.image.proofs.RoundTrips.{image-length}
 use Rattle.node_c.proofs.Calls.{calls-return, writes-to, leaves-to}
 use Rattle.node_c.specs.Calls.{HandedBack, delivered, asked, started, Returned, return, onImage, nodeStart, nodeDeliver, nodeQuery, nodeCheckpoint}
-use Rattle.agreement.specs.History.{Host, byValue, throughC, start, deliver, query, checkpoint, Cluster, Outcome, imageNode, nodeAt, putNode, putImage, answers, onNode, onHeldImage, keepImage, give, keepCheckpoint, checkpointNode, checkpointImage, run}
+use Rattle.agreement.specs.History.{Host, byValue, throughC, start, deliver, query, checkpoint, Cluster, Outcome, imageNode, nodeAt, putNode}
+use Rattle.agreement.specs.History.{putImage, answers, onNode, onHeldImage, keepImage, give, keepCheckpoint, checkpointNode, checkpointImage}
+use Rattle.agreement.specs.History.{run}
 
 -- the cluster with this node at the host
 abbrev pub leave : Cluster → Host → Node → Cluster
@@ -75,16 +81,19 @@ module _ (w : Cluster) (i : ℕ) (r : HandedBack) (out : List ℕ) (fine : Write
   written x v e =
       ap (keepImage w i) e
       ∙ ap (λ (b : Bool). answers (r .number) (held b (take imageSize (overwrite (imageBytes (r .node)) out)))) (writes-to (r .number) v)
-      ∙ ap (λ (image : List ℕ). answers (r .number) (putImage w i image)) (front (imageBytes (r .node)) out imageSize (image-length (r .node) (fine v .fits)))
+      ∙ ap (λ (image : List ℕ). answers (r .number) (putImage w i image))
+      (front (imageBytes (r .node)) out imageSize (image-length (r .node) (fine v .fits)))
 
   by-returning : (x : Returned) → Returning r out x → Kept w i r (keepImage w i x)
   unfolding held
   by-returning x (no-room l a b e) = inl (ap (λ (y : Returned). keepImage w i y .after) e)
   by-returning x (writes l v e) = inr (v, written x v e)
-  by-returning x (leaves n p e) = inl (ap (λ (y : Returned). keepImage w i y .after) e ∙ ap (λ (b : Bool). held b (take imageSize out)) (leaves-to (r .number) n))
+  by-returning x (leaves n p e) = inl
+      (ap (λ (y : Returned). keepImage w i y .after) e ∙ ap (λ (b : Bool). held b (take imageSize out)) (leaves-to (r .number) n))
 
   -- a call that returns 128 handed back 128
-  returned-voted : (x : Returned) → Returning r out x → x .number ≡ 128 → (r .number ≡ 128) × (keepImage w i x ≡ answers (r .number) (putImage w i (imageBytes (r .node))))
+  returned-voted : (x : Returned) → Returning r out x → x .number ≡ 128 → (r .number ≡ 128) ×
+      (keepImage w i x ≡ answers (r .number) (putImage w i (imageBytes (r .node))))
   returned-voted x (no-room l a b e) z = let q : x .number ≡ 22 = ap (λ (y : Returned). y .number) e in absurd (omega arith)
   returned-voted x (writes l v e) z = (sym (ap (λ (y : Returned). y .number) e) ∙ z, written x v e)
   returned-voted x (leaves n p e) z = absurd (n (inr (inl (sym (ap (λ (y : Returned). y .number) e) ∙ z))))
@@ -100,7 +109,7 @@ held-image b n = go (readImage b .ok) refl
   where
     go : (t : Bool) → readImage b .ok ≡ t → cond t (some (readImage b .node)) none ≡ some n → (readImage b .ok ≡ true) × (readImage b .node ≡ n)
     go true e f = (e, Option·some-injective (readImage b .node) n f)
-    go false e f = absurd (let z : _≡_ {A = ℕ} 0 1 = cc in omega arith)
+    go false e f = clash (cc)
 
 on-image : (f : Node → HandedBack) (b out : List ℕ) (n : Node) → imageNode (some b) ≡ some n → onImage f b out ≡ return (f n) out
 unfolding onImage
@@ -111,12 +120,13 @@ unfolding onImage
 unread f b out e = rw e
 
 -- a call that is answered 0 handed back 0
-pub heard : (w : Cluster) (h : Host) (f : Node → HandedBack) (out : List ℕ) (n : Node) → nodeAt w h ≡ some n → onHost w h f out .answer ≡ some 0 → f n .number ≡ 0
+pub heard : (w : Cluster) (h : Host) (f : Node → HandedBack) (out : List ℕ) (n : Node) → nodeAt w h ≡ some n → onHost w h f out .answer ≡ some 0
+    → f n .number ≡ 0
 heard w (byValue i) f out n e a = Option·some-injective (f n .number) 0 (ap (λ (o : Option Node). onNode w i f o .answer) (sym e) ∙ a)
 heard w (throughC i) f out n e a = go (w .images i) e a
   where
     go : (o : Option (List ℕ)) → imageNode o ≡ some n → onHeldImage w i (λ b. onImage f b out) o .answer ≡ some 0 → f n .number ≡ 0
-    go none e a = absurd (let z : _≡_ {A = ℕ} 0 1 = cc in omega arith)
+    go none e a = clash (cc)
     go (some b) e a =
         returned-zero (f n) out (return (f n) out) (calls-return (f n) out)
         (ap (λ (r : Returned). r .number) (sym (on-image f b out n e)) ∙ Option·some-injective (onImage f b out .number) 0 a)
@@ -175,7 +185,7 @@ voted-left w (throughC i) f out n fine e a = go (w .images i) e a
   where
     go : (o : Option (List ℕ)) → imageNode o ≡ some n → onHeldImage w i (λ b. onImage f b out) o .answer ≡ some 128
         → (f n .number ≡ 128) × (onHeldImage w i (λ b. onImage f b out) o .after ≡ leave w (throughC i) (f n .node))
-    go none e a = absurd (let z : _≡_ {A = ℕ} 0 1 = cc in omega arith)
+    go none e a = clash (cc)
     go (some b) e a =
         let q = on-image f b out n e in
         let said = ap (λ (r : Returned). r .number) (sym q) ∙ Option·some-injective (onImage f b out .number) 128 a in
@@ -263,7 +273,8 @@ run-checkpoint w (throughC i) out fine = go (w .images i) refl
         x : Bool → Cluster
         x t =
             let n = readImage b .node in
-            let r : Returned = cond t (record { number = checkpointNumber (checkpointOf n out .answer); slice = checkpointSlice n out }) (record { number = 1; slice = out }) in
+            let r : Returned = cond t (record { number = checkpointNumber (checkpointOf n out .answer); slice = checkpointSlice n out })
+            (record { number = 1; slice = out }) in
             keepCheckpoint w (r .number) (r .slice) .after
 
         read : (t : Bool) → readImage b .ok ≡ t → (x t ≡ w) ⊎ Gave w (throughC i) (x t)

@@ -1,4 +1,5 @@
--- The states that a park reaches: the first one, and what a performed announcement makes of one. Where no two announcements performed from one state differ,
+-- The states that a park reaches: the first one, and what a performed announcement makes of one. Where no two announcements performed from one state
+-- differ,
 -- there is one state to a cycle, days never fall, and an ended login stays out until it is granted again.
 use mathlib.Core.Path.{_≡_, refl, sym, ap, _∙_, subst}
 use mathlib.Core.Bool.{Bool, true, false, true≢false}
@@ -8,12 +9,12 @@ use native.Mathlib.Decide.{decLe}
 use native.Mathlib.Omega.{arith}
 use Rattle.state.specs.declared.State.{State}
 use Rattle.state.specs.declared.Day.{Day}
-use Rattle.state.specs.Logins.{isListed}
+use Rattle.tables.specs.Logins.{isListed}
 use Rattle.records.specs.declared.Announcement.{Announcement}
 use Rattle.records.specs.declared.Action.the-variants.{End}
 use Rattle.actions.specs.Perform.{perform}
 use Rattle.actions.specs.Claims.{Advances, IsGrantOf}
-use Rattle.actions.proofs.Perform.{end-drops, only-grant-adds}
+use Rattle.actions.proofs.Performed.{end-drops, only-grant-adds}
 use Rattle.agreement.specs.Chain.{Reached, origin, next}
 
 -- an announcement that is performed from a state of a cycle above e and below c, and grants the login
@@ -106,7 +107,8 @@ module _ (first : State) (Step : State → Announcement → Type 0)
         let y = cycle-first t f in
         let z = least-cycle S in
         absurd (omega arith)
-    granted-since {t} (next q b Q g f) c h = go (λ c′ h′. granted-since Q c′ h′) (decLe (suc (s .cycle .0)) (q .cycle .0)) (isListed login (q .logins)) refl
+    granted-since {t} (next q b Q g f) c h = go (λ c′ h′. granted-since Q c′ h′) (decLe (suc (s .cycle .0)) (q .cycle .0))
+        (isListed login (q .logins)) refl
       where
         above : t .cycle .0 ≡ suc (q .cycle .0)
         above = cycle-next t q b g f

@@ -11,7 +11,7 @@ use Rattle.state.specs.declared.Cycle.{Cycle}
 use Rattle.state.specs.declared.State.{State}
 use Rattle.state.specs.Time.{isBeforeDay, laterDay}
 use Rattle.state.specs.Seats.{quorumOf}
-use Rattle.state.specs.Logins.{isListed}
+use Rattle.tables.specs.Logins.{isListed}
 use Rattle.records.specs.declared.Announcement.{Announcement}
 use Rattle.records.specs.declared.AnnouncementRead.the-variants as A
 use Rattle.records.specs.declared.Query.{Query}
@@ -22,7 +22,7 @@ use Rattle.records.specs.StartQuery.{readQuery}
 use Rattle.records.proofs.Counts.{quorums-overlap}
 use Rattle.checkpoint.specs.Checkpoint.{checkpointBytes, readCheckpoint}
 use Rattle.actions.specs.Claims.{Advances}
-use Rattle.actions.proofs.Perform.{always-advances}
+use Rattle.actions.proofs.Performed.{always-advances}
 use Rattle.node.specs.declared.Node.{Node}
 use Rattle.node.specs.declared.DeliverReply.{DeliverReply}
 use Rattle.node.specs.declared.QueryReply.{QueryReply}
@@ -36,7 +36,8 @@ use Rattle.node.proofs.Query.{query-comes-to}
 use Rattle.node.proofs.Numbers.{deliver-numbers, query-numbers}
 use Rattle.node_c.specs.Calls.{delivered, asked}
 use Rattle.agreement.specs.History.{History, Moment, Outcome, run, answer}
-use Rattle.agreement.specs.Claims.{Performed, Opened, Park, EquivocationBound, Agreement, Ended, GrantedAgain, Demand3, AlwaysWellFormed, ImagesReadBack}
+use Rattle.agreement.specs.Claims.{Performed, Opened, Park, EquivocationBound, Agreement, Ended, GrantedAgain, Demand3, AlwaysWellFormed}
+use Rattle.agreement.specs.Claims.{ImagesReadBack}
 use Rattle.agreement.specs.Chain.{Step, Reached, AlwaysReached}
 use Rattle.agreement.proofs.Chain.{GrantBetween, agree, days, granted-since}
 use Rattle.agreement.proofs.Calls.{run-deliver, run-query, heard}
@@ -49,7 +50,8 @@ pub record Does (n : Node) (ab sb : List ℕ) (a : Announcement) : Type 0 where
   pub accepted : Accepted n ab sb a
   pub quorum : quorumOf (n .state) ≤ countedSeats (rowsOf sb) (n .state .seats)
 
-done : (n : Node) (ab sb : List ℕ) (a : Announcement) → readAnnouncement ab ≡ A.Read a → (r : DeliverReply) → Delivery n ab sb r → deliverNumber (r .answer) ≡ 0 → Does n ab sb a
+done : (n : Node) (ab sb : List ℕ) (a : Announcement) → readAnnouncement ab ≡ A.Read a → (r : DeliverReply) → Delivery n ab sb r → deliverNumber
+    (r .answer) ≡ 0 → Does n ab sb a
 done n ab sb a ra r (Node.refuses k y e) z =
     let range = deliver-numbers y in
     let q : deliverNumber (r .answer) ≡ k = ap (λ (x : DeliverReply). deliverNumber (x .answer)) e in
@@ -65,7 +67,8 @@ done n ab sb a ra r (Node.performs b acc c e) z =
 pub does : (t : Moment) (s : State) (ab : List ℕ) (a : Announcement) (sb : List ℕ) (p : Performed t s ab a sb) → Does (p .node) ab sb a
 does t s ab a sb p =
     let n = p .node in
-    let said = ap (λ (x : Outcome). x .answer) (sym (run-deliver (t .before) (p .host) ab sb (p .out)) ∙ ap (run (t .before)) (sym (p .called))) ∙ p .answered in
+    let said = ap (λ (x : Outcome). x .answer) (sym (run-deliver (t .before) (p .host) ab sb (p .out)) ∙ ap (run (t .before)) (sym (p .called)))
+    ∙ p .answered in
     done n ab sb a (p .read) (deliverOf n ab sb) (deliver-comes-to n ab sb) (heard (t .before) (p .host) (delivered ab sb) (p .out) n (p .held) said)
 
 opened : (n : Node) (qb : List ℕ) (q : Query) → readQuery qb ≡ Q.Read q → (r : QueryReply) → Asking n qb r → queryNumber (r .answer) ≡ 0 → Opens n q
@@ -83,8 +86,10 @@ opened n qb q rq r (Node.opens p rp o e) z =
 
 pub opens : (u : Moment) (n : Node) (q : Query) → Opened u n q → Opens n q
 opens u n q p =
-    let said = ap (λ (x : Outcome). x .answer) (sym (run-query (u .before) (p .host) (p .qb) (p .out)) ∙ ap (run (u .before)) (sym (p .called))) ∙ p .answered in
-    opened n (p .qb) q (p .read) (queryOf n (p .qb)) (query-comes-to n (p .qb)) (heard (u .before) (p .host) (asked (p .qb)) (p .out) n (p .held) said)
+    let said = ap (λ (x : Outcome). x .answer) (sym (run-query (u .before) (p .host) (p .qb) (p .out)) ∙ ap (run (u .before)) (sym (p .called)))
+    ∙ p .answered in
+    opened n (p .qb) q (p .read) (queryOf n (p .qb)) (query-comes-to n (p .qb))
+    (heard (u .before) (p .host) (asked (p .qb)) (p .out) n (p .held) said)
 
 -- the later of the given and the agreed day is not before the given one
 pub not-before-given : (a b : Day) → a .0 ≤ laterDay a b .0
@@ -116,12 +121,14 @@ module _ (first : List ℕ) (calls : History) (park : Park first calls) where
         quorate : (c : Announcement) (z : Taken s c) → quorumOf s ≤ countedSeats (rowsOf (z .sheet)) (s .seats)
         quorate c z =
             let p = z .performed in
-            subst (λ (v : State). quorumOf v ≤ countedSeats (rowsOf (z .sheet)) (v .seats)) (sym (p .state)) (does (z .moment) s (z .bytes) c (z .sheet) p .quorum)
+            subst (λ (v : State). quorumOf v ≤ countedSeats (rowsOf (z .sheet)) (v .seats)) (sym (p .state))
+            (does (z .moment) s (z .bytes) c (z .sheet) p .quorum)
 
         go : Dec (x .bytes ≡ y .bytes) → a ≡ b
         go (yes e) = let q : A.Read a ≡ A.Read b = sym (x .performed .read) ∙ ap readAnnouncement e ∙ y .performed .read in cc
         go (no e) =
-            let most = bound (x .moment) (y .moment) (x .inList) (y .inList) s (x .bytes) (y .bytes) a b (x .sheet) (y .sheet) (x .performed) (y .performed) e in
+            let most = bound (x .moment) (y .moment) (x .inList) (y .inList) s (x .bytes) (y .bytes) a b (x .sheet) (y .sheet) (x .performed)
+            (y .performed) e in
             let least = quorums-overlap s (rowsOf (x .sheet)) (rowsOf (y .sheet)) (quorate a x) (quorate b y) in
             absurd (omega arith)
 
@@ -139,7 +146,8 @@ module _ (first : List ℕ) (calls : History) (park : Park first calls) where
         d = record { moment = t; inList = i; bytes = ab; sheet = sb; performed = p }
 
         S : Reached (readCheckpoint first .state) Taken s
-        S = subst (Reached (readCheckpoint first .state) Taken) (sym (p .state)) (always first calls park t i .0 .held (p .host) (p .node) (p .held) .reach)
+        S = subst (Reached (readCheckpoint first .state) Taken) (sym (p .state))
+            (always first calls park t i .0 .held (p .host) (p .node) (p .held) .reach)
 
         N : Reached (readCheckpoint first .state) Taken (n .state)
         N = always first calls park u j .0 .held (o .host) n (o .held) .reach
@@ -159,7 +167,7 @@ module _ (first : List ℕ) (calls : History) (park : Park first calls) where
                 absurd (omega arith)
             pick (no h) = omega arith
 
-        found : GrantBetween Taken login (s .cycle .0) (n .state .cycle .0) → GrantedAgain calls login (s .cycle .0) (n .state .cycle .0)
+        found : GrantBetween Taken login (s .cycle .0) (n .state .cycle .0) → GrantedAgain calls login (s .cycle) (n .state .cycle)
         found x = record {
           moment = x .step .moment;
           inList = x .step .inList;

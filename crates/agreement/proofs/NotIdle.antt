@@ -19,18 +19,21 @@ use Rattle.records.specs.Announcement.{readAnnouncement}
 use Rattle.checkpoint.specs.Checkpoint.{checkpointBytes, isCheckpoint}
 use Rattle.node.specs.Start.{startOf}
 use Rattle.node.specs.Deliver.{deliverOf}
-use Rattle.node_c.specs.Image.{imageBytes, decodeImage, isWellFormedVote, isWellFormedOwn, isImage, readImage}
+use Rattle.node.specs.WellFormed.{isWellFormedVote, isWellFormedOwn}
+use Rattle.image.specs.Image.{imageBytes, decodeImage, isImage, readImage}
 use Rattle.node_c.specs.Calls.{return, onImage, nodeStart, nodeDeliver}
-use Rattle.marked_examples.specs.Records.{firstCheckpoint, startSeat0, grantTo, twoRows}
-use Rattle.marked_examples.proofs.Compute.{calls-by-value}
-use Rattle.agreement.specs.History.{byValue, throughC, Call, start, deliver, query, checkpoint, History, Cluster, empty, run, Moment, momentsFrom, moments, answer}
+use Rattle.examples.specs.Records.{firstCheckpoint, startSeat0, grantTo, twoRows}
+use Rattle.examples.proofs.Compute.{calls-by-value}
+use Rattle.agreement.specs.History.{byValue, throughC, Call, start, deliver, query, checkpoint, History, Cluster, empty, run, Moment}
+use Rattle.agreement.specs.History.{momentsFrom, moments, answer}
 use Rattle.agreement.specs.Claims.{HoldsBytes, Park, EquivocationBound, Agreement}
-use Rattle.agreement.specs.NotIdle.{startSeat1, otherRows, endLogin, peaceful, divided, WithinBound, BeyondBound}
+use Rattle.agreement.specs.NotIdle.{startSeat1, otherRows, end501, peaceful, divided, WithinBound, BeyondBound}
 use Rattle.agreement.proofs.Demand.{advances}
 
 -- what unfolds where calls at hosts are computed
 unfoldable pub calls-at-hosts : Unit {0}
-unfolding calls-by-value toBytes overwrite encodeRows checkpointBytes imageBytes decodeImage isWellFormedVote isWellFormedOwn isImage readImage return onImage nodeStart nodeDeliver run momentsFrom
+unfolding calls-by-value toBytes overwrite encodeRows checkpointBytes imageBytes decodeImage isWellFormedVote isWellFormedOwn isImage readImage
+    return onImage nodeStart nodeDeliver run momentsFrom
 calls-at-hosts = tt
 
 -- ---- of every call of a list
@@ -49,7 +52,8 @@ unfolding momentsFrom
 each P w [] h t m = absurd (List·Memᴰ·not-nil m)
 each P w (c ∷ cs) h t m = pick (λ i. each P (run w c .after) cs (h .1) t i) (List·Memᴰ·cases-cons m)
   where
-    pick : (List·Memᴰ t (momentsFrom (run w c .after) cs) → P (t .call)) → (t ≡ record { before = w; call = c }) ⊎ List·Memᴰ t (momentsFrom (run w c .after) cs) → P (t .call)
+    pick : (List·Memᴰ t (momentsFrom (run w c .after) cs) → P (t .call)) → (t ≡ record { before = w; call = c }) ⊎ List·Memᴰ t
+        (momentsFrom (run w c .after) cs) → P (t .call)
     pick ih (inl e) = rw e (h .0)
     pick ih (inr i) = ih i
 
@@ -85,7 +89,8 @@ FromFirst first (query h qb out) = Unit {0}
 FromFirst first (checkpoint h out) = Unit {0}
 
 -- So the list is one of a park.
-pub park : (first : List ℕ) (calls : History) → isBytes first ≡ true → isCheckpoint first ≡ true → all holdsBytes calls ≡ true → Each (FromFirst first) calls → Park first calls
+pub park : (first : List ℕ) (calls : History) → isBytes first ≡ true → isCheckpoint first ≡ true → all holdsBytes calls ≡ true → Each
+    (FromFirst first) calls → Park first calls
 park first calls k c b f = record {
   first-bytes = bytes first k;
   first-checkpoint = c;
@@ -120,26 +125,32 @@ unfolding all
 peaceful-park = park firstCheckpoint peaceful refl first-accepted refl (refl, (refl, (tt, (tt, (tt, (tt, tt))))))
 
 announced : ℕ → List ℕ
-announced c = cond (eqb c 1) (grantTo 120) endLogin
+announced c = cond (eqb c 1) (grantTo 120) end501
 
 -- bytes that are read as an announcement of cycle c
-of-cycle : (ab : List ℕ) (b : Announcement) → readAnnouncement ab ≡ Read b → ab ≡ announced (b .cycle .0) → (a : Announcement) → readAnnouncement ab ≡ Read a → ab ≡ announced (a .cycle .0)
-of-cycle ab b e f a r = let w : Read b ≡ Read a = sym e ∙ r in let same : b ≡ a = cc in subst (λ (x : Announcement). ab ≡ announced (x .cycle .0)) same f
+of-cycle : (ab : List ℕ) (b : Announcement) → readAnnouncement ab ≡ Read b → ab ≡ announced (b .cycle .0) → (a : Announcement) → readAnnouncement ab
+    ≡ Read a → ab ≡ announced (a .cycle .0)
+of-cycle ab b e f a r = let w : Read b ≡ Read a = sym e ∙ r in let same : b ≡ a = cc in subst
+    (λ (x : Announcement). ab ≡ announced (x .cycle .0)) same f
 
 granted : (a : Announcement) → readAnnouncement (grantTo 120) ≡ Read a → grantTo 120 ≡ announced (a .cycle .0)
 unfolding calls-by-value announced
 granted = of-cycle (grantTo 120) _ refl refl
 
-ended : (a : Announcement) → readAnnouncement endLogin ≡ Read a → endLogin ≡ announced (a .cycle .0)
+ended : (a : Announcement) → readAnnouncement end501 ≡ Read a → end501 ≡ announced (a .cycle .0)
 unfolding calls-by-value announced
-ended = of-cycle endLogin _ refl refl
+ended = of-cycle end501 _ refl refl
 
 answered : map answer (moments peaceful) ≡ replicate 6 (some 0)
 unfolding calls-at-hosts
 answered = refl
 
 pub within-bound : WithinBound
-within-bound = record { park = peaceful-park; bound = bounded peaceful announced peaceful-park (tt, (tt, (granted, (granted, (ended, (ended, tt)))))); performed = answered }
+within-bound = record {
+  park = peaceful-park;
+  bound = bounded peaceful announced peaceful-park (tt, (tt, (granted, (granted, (ended, (ended, tt))))));
+  performed = answered;
+}
 
 -- ---- beyond the bound
 
@@ -156,7 +167,8 @@ unfolding calls-at-hosts
 split A =
     let n = deliverOf (startOf firstCheckpoint startSeat0 .node) (grantTo 120) (twoRows 0) .node in
     let k = deliverOf (startOf firstCheckpoint startSeat1 .node) (grantTo 121) otherRows .node in
-    let e = A _ _ (List·Memᴰ·tail (List·Memᴰ·tail (List·Memᴰ·head refl))) (List·Memᴰ·tail (List·Memᴰ·tail (List·Memᴰ·tail (List·Memᴰ·head refl)))) (byValue 0) (throughC 1) n k refl refl refl in
+    let e = A _ _ (List·Memᴰ·tail (List·Memᴰ·tail (List·Memᴰ·head refl))) (List·Memᴰ·tail (List·Memᴰ·tail (List·Memᴰ·tail (List·Memᴰ·head refl))))
+    (byValue 0) (throughC 1) n k refl refl refl in
     let z : _≡_ {A = ℕ} 120 121 = ap (λ (b : List ℕ). getD b 472 0) e in
     omega arith
 

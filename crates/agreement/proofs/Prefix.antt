@@ -12,8 +12,15 @@ split w (c ∷ cs) t m = pick (λ i. split (run w c .after) cs t i) (List·Mem�
   where
     pick : (List·Memᴰ t (momentsFrom (run w c .after) cs) → Prefix (run w c .after) cs t)
         → (t ≡ record { before = w; call = c }) ⊎ List·Memᴰ t (momentsFrom (run w c .after) cs) → Prefix w (c ∷ cs) t
-    pick ih (inl e) = record { earlier = []; later = cs; list = ap (λ (x : Moment). x .call ∷ cs) (sym e); cluster = ap (λ (x : Moment). x .before) e }
-    pick ih (inr i) = let p = ih i in record { earlier = c ∷ p .earlier; later = p .later; list = ap (λ (x : History). c ∷ x) (p .list); cluster = p .cluster }
+    pick ih (inl e) = record {
+      earlier = [];
+      later = cs;
+      list = ap (λ (x : Moment). x .call ∷ cs) (sym e);
+      cluster = ap
+          (λ (x : Moment). x .before) e;
+    }
+    pick ih (inr i) = let p = ih i in
+        record { earlier = c ∷ p .earlier; later = p .later; list = ap (λ (x : History). c ∷ x) (p .list); cluster = p .cluster }
 
 pub moments-are-prefixes : MomentsArePrefixes
 moments-are-prefixes calls t m = split empty calls t m

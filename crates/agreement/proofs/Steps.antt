@@ -7,10 +7,11 @@ use mathlib.Core.Option.{Option, some, Option·some-injective}
 use Prim.Native.Nat.{ℕ}
 use native.Mathlib.Omega.{arith}
 use lib.Dec.{eqb}
+use Rattle.lists.proofs.Tests.{clash}
 use Rattle.state.specs.declared.State.{State}
 use Rattle.checkpoint.specs.declared.CheckpointRead.{CheckpointRead}
 use Rattle.checkpoint.specs.Checkpoint.{checkpointBytes, readCheckpoint}
-use Rattle.checkpoint.proofs.Checkpoint.{state-read-back}
+use Rattle.checkpoint.proofs.RoundTrips.{state-read-back}
 use Rattle.actions.specs.Claims.{WellFormed}
 use Rattle.node.specs.declared.Node.{Node}
 use Rattle.node.specs.declared.StartReply.{StartReply}
@@ -25,15 +26,17 @@ use Rattle.node.proofs.Deliver.{deliver-comes-to}
 use Rattle.node.proofs.Query.{query-keeps-state}
 use Rattle.node.proofs.Start.{start-comes-to}
 use Rattle.node.proofs.Numbers.{start-numbers}
-use Rattle.node_c.specs.Image.{imageBytes, readImage}
-use Rattle.node_c.specs.Claims.{WellFormedNode}
-use Rattle.node_c.proofs.Image.{node-read-back}
-use Rattle.node_c.proofs.WellFormed.{start-makes-well-formed, deliver-keeps-well-formed, query-keeps-well-formed}
+use Rattle.image.specs.Image.{imageBytes, readImage}
+use Rattle.node.specs.WellFormed.{WellFormedNode}
+use Rattle.image.proofs.RoundTrips.{node-read-back}
+use Rattle.node.proofs.WellFormedNodes.{start-makes-well-formed, deliver-keeps-well-formed, query-keeps-well-formed}
 use Rattle.node_c.specs.Calls.{HandedBack, started, delivered, asked}
-use Rattle.agreement.specs.History.{Host, byValue, throughC, Call, start, deliver, query, checkpoint, History, Cluster, empty, Outcome, imageNode, nodeAt, putNode, putImage, give, answers, run, Moment, answer, after, momentsFrom}
+use Rattle.agreement.specs.History.{Host, byValue, throughC, Call, start, deliver, query, checkpoint, History, Cluster, empty, Outcome}
+use Rattle.agreement.specs.History.{imageNode, nodeAt, putNode, putImage, give, answers, run, Moment, answer, after, momentsFrom}
 use Rattle.agreement.specs.Claims.{Park, _∈_}
 use Rattle.agreement.specs.Chain.{Step, Reached, origin, next}
-use Rattle.agreement.proofs.Calls.{leave, onHost, run-deliver, run-query, Left, ran, startBy, run-start, start-refused, start-accepted, Gave, run-checkpoint}
+use Rattle.agreement.proofs.Calls.{leave, onHost, run-deliver, run-query, Left, ran, startBy, run-start, start-refused, start-accepted, Gave}
+use Rattle.agreement.proofs.Calls.{run-checkpoint}
 
 module _ (first : List ℕ) (calls : History) where
   abbrev pub Reach : State → Type 0
@@ -60,11 +63,11 @@ module _ (first : List ℕ) (calls : History) where
     given : (b : List ℕ) → List·Memᴰ b (w .given) → Known b
 
   good-empty : Good empty
-  good-empty = record { held = none-held; reads = λ i b e. absurd (let z : _≡_ {A = ℕ} 0 1 = cc in omega arith); given = λ b m. absurd (List·Memᴰ·not-nil m) }
+  good-empty = record { held = none-held; reads = λ i b e. clash (cc); given = λ b m. absurd (List·Memᴰ·not-nil m) }
     where
       none-held : (h : Host) (n : Node) → nodeAt empty h ≡ some n → Fine n
-      none-held (byValue i) n e = absurd (let z : _≡_ {A = ℕ} 0 1 = cc in omega arith)
-      none-held (throughC i) n e = absurd (let z : _≡_ {A = ℕ} 0 1 = cc in omega arith)
+      none-held (byValue i) n e = clash (cc)
+      none-held (throughC i) n e = clash (cc)
 
   -- the image of a well-formed node holds that node
   image-held : (n : Node) → WellFormedNode n → imageNode (some (imageBytes n)) ≡ some n
@@ -82,7 +85,8 @@ module _ (first : List ℕ) (calls : History) where
       at (throughC j) x e = G .held (throughC j) x e
   good-leave w (throughC i) n G F = record { held = at; reads = λ j. back (w .images j) (eqb j i) (G .reads j); given = G .given }
     where
-      pick : (x : Node) (o : Option (List ℕ)) (b : Bool) → (imageNode o ≡ some x → Fine x) → imageNode (cond b (some (imageBytes n)) o) ≡ some x → Fine x
+      pick : (x : Node) (o : Option (List ℕ)) (b : Bool) → (imageNode o ≡ some x → Fine x) → imageNode (cond b (some (imageBytes n)) o) ≡ some x
+          → Fine x
       pick x o true k e = subst Fine (Option·some-injective n x (sym (image-held n (F .well-formed)) ∙ e)) F
       pick x o false k e = k e
 
@@ -90,7 +94,8 @@ module _ (first : List ℕ) (calls : History) where
       at (byValue j) x e = G .held (byValue j) x e
       at (throughC j) x e = pick x (w .images j) (eqb j i) (G .held (throughC j) x) e
 
-      back : (o : Option (List ℕ)) (c : Bool) → ((b : List ℕ) → o ≡ some b → ReadBack b) → (b : List ℕ) → cond c (some (imageBytes n)) o ≡ some b → ReadBack b
+      back : (o : Option (List ℕ)) (c : Bool) → ((b : List ℕ) → o ≡ some b → ReadBack b) → (b : List ℕ) → cond c (some (imageBytes n)) o ≡ some b
+          → ReadBack b
       back o true k b e =
           let q : imageBytes n ≡ b = Option·some-injective (imageBytes n) b e in
           (n, sym q, ap readImage (sym q) ∙ node-read-back n (F .well-formed))
@@ -104,7 +109,8 @@ module _ (first : List ℕ) (calls : History) where
     where
       pick : (onHost w h f out .after ≡ w) ⊎ Left w h f (onHost w h f out) → Good (onHost w h f out .after)
       pick (inl k) = subst Good (sym k) G
-      pick (inr l) = subst Good (sym (l .after)) (good-leave w h (f (l .node) .node) G (record { well-formed = fine (l .node) (l .held); reach = reach l }))
+      pick (inr l) = subst Good (sym (l .after))
+          (good-leave w h (f (l .node) .node) G (record { well-formed = fine (l .node) (l .held); reach = reach l }))
 
   module _ (park : Park first calls) where
     -- ---- start
@@ -114,10 +120,12 @@ module _ (first : List ℕ) (calls : History) where
     lawful-state w cb G (inl e) = origin (ap (λ (b : List ℕ). readCheckpoint b .state) e)
     lawful-state w cb G (inr i) =
         let k = G .given cb i in
-        let e : readCheckpoint cb ≡ record { ok = true; state = k .state } = ap readCheckpoint (k .bytes) ∙ state-read-back (k .state) (k .well-formed .fits) (k .well-formed .well-formed) in
+        let e : readCheckpoint cb ≡ record { ok = true; state = k .state } = ap readCheckpoint (k .bytes) ∙ state-read-back (k .state)
+        (k .well-formed .fits) (k .well-formed .well-formed) in
         subst Reach (ap (λ (c : CheckpointRead). c .state) (sym e)) (k .reach)
 
-    good-start : (w : Cluster) (h : Host) (cb sb out : List ℕ) → record { before = w; call = start h cb sb out } ∈ calls → Good w → Good (run w (start h cb sb out) .after)
+    good-start : (w : Cluster) (h : Host) (cb sb out : List ℕ) → record { before = w; call = start h cb sb out } ∈ calls → Good w → Good
+        (run w (start h cb sb out) .after)
     good-start w h cb sb out m G = rw (run-start w h cb sb out) (by-starting (start-comes-to cb sb))
       where
         r : HandedBack
@@ -135,7 +143,7 @@ module _ (first : List ℕ) (calls : History) where
         by-starting : Starting cb sb (startOf cb sb) → Good (startBy w h r out .after)
         by-starting (Node.refuses k y e) =
             let range = start-numbers y in
-            let number : r .number ≡ k = ap startNumber e in
+            let number : r .number ≡ k = ap (λ (x : StartReply). startNumber (x .answer)) e in
             subst Good (sym (start-refused w h r out (omega arith) (omega arith))) G
         by-starting (Node.starts x rx rc active above e) =
             let a : startOf cb sb .answer ≡ Started = ap (λ (x : StartReply). x .answer) e in
@@ -164,18 +172,21 @@ module _ (first : List ℕ) (calls : History) where
             called = refl;
             held = l .held;
             state = refl;
-            answered = ap (λ (x : Outcome). x .answer) (run-deliver w h ab sb out) ∙ l .answered ∙ ap (λ (x : DeliverReply). some (deliverNumber (x .answer))) (sym q ∙ e);
+            answered = ap (λ (x : Outcome). x .answer) (run-deliver w h ab sb out) ∙ l .answered ∙ ap
+                (λ (x : DeliverReply). some (deliverNumber (x .answer))) (sym q ∙ e);
             read = acc .read;
           };
         })
         (ap (λ (x : DeliverReply). x .node .state) e)
 
-    good-deliver : (w : Cluster) (h : Host) (ab sb out : List ℕ) → record { before = w; call = deliver h ab sb out } ∈ calls → Good w → Good (run w (deliver h ab sb out) .after)
+    good-deliver : (w : Cluster) (h : Host) (ab sb out : List ℕ) → record { before = w; call = deliver h ab sb out } ∈ calls → Good w → Good
+        (run w (deliver h ab sb out) .after)
     good-deliver w h ab sb out m G =
         rw (run-deliver w h ab sb out)
         (good-on w h (delivered ab sb) out G
         (λ n e. deliver-keeps-well-formed n ab sb (park .bytes _ m .0) (G .held h n e .well-formed))
-        (λ l. deliver-reach w h ab sb out m l (G .held h (l .node) (l .held) .reach) (deliverOf (l .node) ab sb) refl (deliver-comes-to (l .node) ab sb)))
+        (λ l. deliver-reach w h ab sb out m l (G .held h (l .node) (l .held) .reach) (deliverOf (l .node) ab sb) refl
+        (deliver-comes-to (l .node) ab sb)))
 
     -- ---- query
 
@@ -196,7 +207,13 @@ module _ (first : List ℕ) (calls : History) where
         still (throughC i) x e = G .held (throughC i) x e
 
         known : (b : List ℕ) → (b ≡ checkpointBytes (n .state)) ⊎ List·Memᴰ b (w .given) → Known b
-        known b (inl e) = record { state = n .state; bytes = e; well-formed = record { fits = F .well-formed .fits .0; well-formed = F .well-formed .state }; reach = F .reach }
+        known b (inl e) = record {
+          state = n .state;
+          bytes = e;
+          well-formed =
+              record { fits = F .well-formed .fits .0; well-formed = F .well-formed .state };
+          reach = F .reach;
+        }
         known b (inr i) = G .given b i
 
     good-checkpoint : (w : Cluster) (h : Host) (out : List ℕ) → Good w → Good (run w (checkpoint h out) .after)

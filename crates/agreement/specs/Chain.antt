@@ -19,7 +19,8 @@ pub record Step (calls : History) (s : State) (a : Announcement) : Type 0 where
   pub sheet : List ℕ
   pub performed : Performed moment s bytes a sheet
 
--- The chain of a state: it is the first one, or what an announcement makes of a state of the chain. `By s a`: the announcement a may be performed from s.
+-- The chain of a state: it is the first one, or what an announcement makes of a state of the chain. `By s a`: the announcement a may be performed
+-- from s.
 pub data Reached (first : State) (By : State → Announcement → Type 0) : State → Type 0 where
   origin : {s : State} → s ≡ first → Reached first By s
   next : {s : State} (r : State) (a : Announcement) → Reached first By r → By r a → s ≡ perform r a → Reached first By s

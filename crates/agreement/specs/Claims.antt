@@ -1,4 +1,5 @@
--- Demand 3, "a single claim about a list, and not one for each call". `moments calls` are the calls of the list, each with the cluster that it finds; what a
+-- Demand 3, "a single claim about a list, and not one for each call". `moments calls` are the calls of the list, each with the cluster that it finds;
+-- what a
 -- host holds "after some call of the list" is `nodeAt (after t)` for a moment t of it.
 use mathlib.Core.Path.{_≡_}
 use mathlib.Core.Logic.{_≢_, _⊎_}
@@ -7,8 +8,10 @@ use mathlib.Core.List.{List, [], _++_, _∷_, List·Memᴰ}
 use mathlib.Core.Option.{some}
 use Prim.Native.Nat.{ℕ, _+_, _*_, _≤_, _<_}
 use Rattle.binary.specs.Number.{Bytes}
+use Rattle.state.specs.declared.Cycle.{Cycle}
 use Rattle.state.specs.declared.Login.{Login}
 use Rattle.state.specs.declared.State.{State}
+use Rattle.state.specs.Time.{daysSince, CycleBefore}
 use Rattle.records.specs.declared.Announcement.{Announcement}
 use Rattle.records.specs.declared.AnnouncementRead.the-variants as A
 use Rattle.records.specs.declared.Action.the-variants.{Grant, End}
@@ -19,9 +22,10 @@ use Rattle.records.specs.Sheet.{rowsOf, countedOnBoth}
 use Rattle.records.specs.StartQuery.{readQuery}
 use Rattle.checkpoint.specs.Checkpoint.{checkpointBytes, isCheckpoint}
 use Rattle.node.specs.declared.Node.{Node}
-use Rattle.node_c.specs.Image.{imageBytes, readImage}
-use Rattle.node_c.specs.Claims.{WellFormedNode}
-use Rattle.agreement.specs.History.{Host, Call, start, deliver, query, checkpoint, History, Moment, moments, answer, after, nodeAt, run, empty, Cluster}
+use Rattle.image.specs.Image.{imageBytes, readImage}
+use Rattle.node.specs.WellFormed.{WellFormedNode}
+use Rattle.agreement.specs.History.{Host, Call, start, deliver, query, checkpoint, History, Moment, moments, answer, after, nodeAt, run, empty}
+use Rattle.agreement.specs.History.{Cluster}
 
 -- t is a moment of the history
 abbrev pub _∈_ : Moment → History → Type 0
@@ -63,12 +67,13 @@ abbrev pub LawfulStarts : List ℕ → History → Type 0
 LawfulStarts first calls = (t : Moment) → t ∈ calls → (h : Host) (cb rb out : List ℕ) → t .call ≡ start h cb rb out → answer t ≡ some 0
     → (cb ≡ first) ⊎ List·Memᴰ cb (t .before .given)
 
--- "Double-voter bound: for any two deliver calls of the list that are performed, from equal synchronised states and with announcements that differ, at most 2m
+-- "Double-voter bound: for any two deliver calls of the list that are performed, from equal synchronised states and with announcements that differ,
+-- at most 2m
 -- seats count on both sheets. The margin in force m, standings and lives are those of that state."
 abbrev pub EquivocationBound : History → Type 0
 EquivocationBound calls = (t u : Moment) → t ∈ calls → u ∈ calls
     → (s : State) (ab bb : List ℕ) (a b : Announcement) (asb bsb : List ℕ) → Performed t s ab a asb → Performed u s bb b bsb → ab ≢ bb
-    → countedOnBoth (rowsOf asb) (rowsOf bsb) (s .seats) ≤ 2 * s .margin
+    → countedOnBoth (rowsOf asb) (rowsOf bsb) (s .seats) ≤ 2 * s .minima .margin
 
 -- "The park has one well-formed first checkpoint."
 pub record Park (first : List ℕ) (calls : History) : Type 0 where
@@ -86,7 +91,7 @@ Agreement calls = (t u : Moment) → t ∈ calls → u ∈ calls
     → n .state .cycle ≡ k .state .cycle → checkpointBytes (n .state) ≡ checkpointBytes (k .state)
 
 -- a deliver call of the list performs a grant of that login, in a cycle above e and below c
-pub record GrantedAgain (calls : History) (login e c : ℕ) : Type 0 where
+pub record GrantedAgain (calls : History) (login : ℕ) (e c : Cycle) : Type 0 where
   pub moment : Moment
   pub inList : moment ∈ calls
   pub state : State
@@ -97,17 +102,20 @@ pub record GrantedAgain (calls : History) (login e c : ℕ) : Type 0 where
   pub row : Login
   pub grants : announcement .action ≡ Grant row
   pub named : row .login ≡ login
-  pub above : e < state .cycle .0
-  pub below : state .cycle .0 < c
+  pub above : CycleBefore e (state .cycle)
+  pub below : CycleBefore (state .cycle) c
 
--- "Ended: a deliver call of the list performs kind 9 for the login, in cycle e with announced day D. A query for it, before or after that call in the list, on
--- a given day above D+S (S of the node asked, the sum never cut to 32 bits) is answered open only if a deliver call of the list performs a grant of that login
+-- A given day is above D+S where it comes more than S days after D: "the sum never cut to 32 bits".
+-- "Ended: a deliver call of the list performs kind 9 for the login, in cycle e with announced day D. A query for it, before or after that call in the
+-- list, on
+-- a given day above D+S (S of the node asked, the sum never cut to 32 bits) is answered open only if a deliver call of the list performs a grant of
+-- that login
 -- in a cycle above e and below the cycle of the node asked."
 abbrev pub Ended : History → Type 0
 Ended calls = (t u : Moment) → t ∈ calls → u ∈ calls
     → (s : State) (ab : List ℕ) (a : Announcement) (sb : List ℕ) (login : ℕ) → Performed t s ab a sb → a .action ≡ End login
-    → (n : Node) (q : Query) → Opened u n q → q .login ≡ login → a .day .0 + n .state .silence < q .day .0
-    → GrantedAgain calls login (s .cycle .0) (n .state .cycle .0)
+    → (n : Node) (q : Query) → Opened u n q → q .login ≡ login → n .state .minima .silence < daysSince (q .day) (a .day)
+    → GrantedAgain calls login (s .cycle) (n .state .cycle)
 
 -- Demand 3, whole.
 abbrev pub Demand3 : Type 0

@@ -7,8 +7,10 @@ use lib.Dec.{eqb}
 use lib.ListN.{take}
 use Rattle.node.specs.declared.Node.{Node}
 use Rattle.node.specs.Answers.{checkpointNumber}
-use Rattle.node.specs.Give.{checkpointSize, checkpointOf, checkpointSlice}
-use Rattle.node_c.specs.Image.{imageSize, readImage}
+use Rattle.checkpoint.specs.Layout.{checkpointSize}
+use Rattle.node.specs.Checkpoint.{checkpointOf, checkpointSlice}
+use Rattle.image.specs.Layout.{imageSize}
+use Rattle.image.specs.Image.{readImage}
 use Rattle.node_c.specs.Calls.{HandedBack, started, delivered, asked, Returned, writesImage, nodeStart, nodeDeliver, nodeQuery, nodeCheckpoint}
 
 -- A host (01: hub). "a hub's calls are all by value or all through C": its name says which.

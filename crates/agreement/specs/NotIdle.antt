@@ -1,10 +1,12 @@
--- The bound asks for something, and what it asks for can be had: a history within it in which two hosts perform, and one beyond it in which the park splits.
+-- The bound asks for something, and what it asks for can be had: a history within it in which two hosts perform, and one beyond it in which the park
+-- splits.
 use mathlib.Core.Path.{_≡_}
 use mathlib.Core.List.{List, [], _∷_, map}
 use mathlib.Core.Option.{some}
 use Prim.Native.Nat.{ℕ}
 use lib.ListN.{replicate}
-use Rattle.marked_examples.specs.Records.{firstCheckpoint, startSeat0, grantTo, twoRows}
+use Rattle.image.specs.Layout.{imageSize}
+use Rattle.examples.specs.Records.{firstCheckpoint, startSeat0, grantTo, twoRows}
 use Rattle.agreement.specs.History.{byValue, throughC, start, deliver, History, moments, answer}
 use Rattle.agreement.specs.Claims.{Park, EquivocationBound, Agreement}
 
@@ -17,12 +19,12 @@ abbrev pub otherRows : List ℕ
 otherRows = 15 ∷ 0 ∷ 18 ∷ 0 ∷ 1 ∷ 1 ∷ 2 ∷ 1 ∷ 1 ∷ 0 ∷ 0 ∷ 0 ∷ 2 ∷ 1 ∷ 0 ∷ 0 ∷ 0 ∷ []
 
 -- end login 501 in cycle 2, day 110
-abbrev pub endLogin : List ℕ
-endLogin = 22 ∷ 0 ∷ 9 ∷ 0 ∷ 2 ∷ 0 ∷ 0 ∷ 0 ∷ 110 ∷ 0 ∷ 0 ∷ 0 ∷ 245 ∷ 1 ∷ 0 ∷ 0 ∷ 0 ∷ 0 ∷ 0 ∷ 0 ∷ 0 ∷ 0 ∷ 0 ∷ 0 ∷ []
+abbrev pub end501 : List ℕ
+end501 = 22 ∷ 0 ∷ 9 ∷ 0 ∷ 2 ∷ 0 ∷ 0 ∷ 0 ∷ 110 ∷ 0 ∷ 0 ∷ 0 ∷ 245 ∷ 1 ∷ 0 ∷ 0 ∷ 0 ∷ 0 ∷ 0 ∷ 0 ∷ 0 ∷ 0 ∷ 0 ∷ 0 ∷ []
 
 -- a slice with room for an image
 abbrev pub room : List ℕ
-room = replicate 1139 0
+room = replicate imageSize 0
 
 -- two hosts start from the first checkpoint, at seats 0 and 1
 abbrev pub commissioned : History → History
@@ -34,8 +36,8 @@ peaceful =
     commissioned
     (deliver (byValue 0) (grantTo 120) (twoRows 0) []
     ∷ deliver (throughC 1) (grantTo 120) otherRows room
-    ∷ deliver (throughC 1) endLogin (twoRows 0) room
-    ∷ deliver (byValue 0) endLogin otherRows []
+    ∷ deliver (throughC 1) end501 (twoRows 0) room
+    ∷ deliver (byValue 0) end501 otherRows []
     ∷ [])
 
 -- each performs another announcement in one cycle: seat 1 counts on both sheets, and the margin is 0

@@ -14,12 +14,14 @@ use Rattle.agreement.specs.Claims.{Park, EquivocationBound}
 use Rattle.agreement.specs.Chain.{Step}
 use Rattle.agreement.proofs.Demand.{demand-3}
 use Rattle.assurance.specs.Earned.{VoteOf, GoesOn, Steady, HonestVote, Honest, Earned}
-use Rattle.assurance.proofs.Lists.{at-most}
+use Rattle.lists.proofs.Members.{at-most}
 use Rattle.assurance.proofs.Votes.{one-vote, same-call}
 
-module _ (first : List ℕ) (calls : History) (park : Park first calls) (honest : (s : State) (a : Announcement) → Step calls s a → Honest calls s) where
+module _ (first : List ℕ) (calls : History) (park : Park first calls)
+    (honest : (s : State) (a : Announcement) → Step calls s a → Honest calls s) where
   -- two votes of a steady seat in one cycle are for the same bytes
-  steady-vote : (i life c : ℕ) (ab bb : List ℕ) → Steady calls i life c → (t u : Moment) → VoteOf calls i life c ab t → VoteOf calls i life c bb u → ab ≡ bb
+  steady-vote : (i life c : ℕ) (ab bb : List ℕ) → Steady calls i life c → (t u : Moment) → VoteOf calls i life c ab t → VoteOf calls i life c bb u
+      → ab ≡ bb
   steady-vote i life c ab bb steady t u v w = at (steady ab bb t u v w)
     where
       at : (t ≡ u) ⊎ (GoesOn calls t u v w ⊎ GoesOn calls u t w v) → ab ≡ bb

@@ -1,13 +1,15 @@
 -- What a step of a park's chain tells: its state is reached and well formed, and no rule applied.
 use mathlib.Core.Path.{sym, subst}
+use mathlib.Core.Logic.{_≢_}
 use mathlib.Core.List.{List}
 use Prim.Native.Nat.{ℕ}
 use Rattle.state.specs.declared.State.{State}
 use Rattle.records.specs.declared.Announcement.{Announcement}
+use Rattle.records.specs.Actions.{subjectOf}
 use Rattle.records.specs.Sheet.{level1, level2}
 use Rattle.checkpoint.specs.Checkpoint.{readCheckpoint}
-use Rattle.actions.specs.Claims.{WellFormed, Admitted, Signed, Found}
-use Rattle.actions.proofs.Admits.{always-signed, always-found}
+use Rattle.actions.specs.Claims.{WellFormed, Admitted, Signed, Notice, Found}
+use Rattle.actions.proofs.Admits.{always-signed, always-notified, always-found}
 use Rattle.agreement.specs.History.{History}
 use Rattle.agreement.specs.Claims.{Park}
 use Rattle.agreement.specs.Chain.{Step, Reached}
@@ -24,10 +26,14 @@ module _ (first : List ℕ) (calls : History) (park : Park first calls) (s : Sta
   step-admitted : Admitted s a (level1 (x .sheet)) (level2 (x .sheet))
   step-admitted =
       let p = x .performed in
-      subst (λ (z : State). Admitted z a (level1 (x .sheet)) (level2 (x .sheet))) (sym (p .state)) (does (x .moment) s (x .bytes) a (x .sheet) p .accepted .admitted)
+      subst (λ (z : State). Admitted z a (level1 (x .sheet)) (level2 (x .sheet))) (sym (p .state))
+      (does (x .moment) s (x .bytes) a (x .sheet) p .accepted .admitted)
 
   pub step-signed : Signed s (level1 (x .sheet)) (level2 (x .sheet)) (a .action)
   step-signed = always-signed s a _ _ step-admitted
+
+  pub step-notified : subjectOf (a .action) .kind ≢ 0 → Notice s (a .day) (subjectOf (a .action))
+  step-notified = always-notified s a _ _ step-admitted
 
   pub step-found : Found s (a .day) (a .action)
   step-found = always-found s a _ _ step-admitted
@@ -35,4 +41,5 @@ module _ (first : List ℕ) (calls : History) (park : Park first calls) (s : Sta
   pub step-reached : Reached (readCheckpoint first .state) (Step calls) s
   step-reached =
       let p = x .performed in
-      subst (Reached (readCheckpoint first .state) (Step calls)) (sym (p .state)) (always first calls park (x .moment) (x .inList) .0 .held (p .host) (p .node) (p .held) .reach)
+      subst (Reached (readCheckpoint first .state) (Step calls)) (sym (p .state))
+      (always first calls park (x .moment) (x .inList) .0 .held (p .host) (p .node) (p .held) .reach)

@@ -5,6 +5,7 @@ use mathlib.Core.List.{List}
 use Prim.Native.Nat.{ℕ, _≤_}
 use native.Mathlib.Omega.{arith}
 use borrow.Author.Tests.{eqb-false, ne-eqb, le-leb}
+use Rattle.lists.proofs.Tests.{clash}
 use Rattle.state.specs.declared.State.{State}
 use Rattle.state.specs.Seats.{quorumOf}
 use Rattle.records.specs.declared.Announcement.{Announcement}
@@ -14,23 +15,27 @@ use Rattle.records.specs.Announcement.{readAnnouncement}
 use Rattle.records.specs.Sheet.{isSheet, level1, level2, rowsOf, countedSeats}
 use Rattle.actions.specs.Claims.{Admitted}
 use Rattle.actions.specs.Perform.{perform}
-use Rattle.actions.specs.Rules.{refuseIf, timeRefusal, actionRefusal, _orElse_}
+use Rattle.refusals.specs.Refusals.{refuseIf, _orElse_}
+use Rattle.rules.specs.Rules.{timeRefusal, actionRefusal}
 use Rattle.node.specs.declared.Node.{Node}
 use Rattle.node.specs.declared.DeliverAnswer.the-variants.{Done, Refused}
 use Rattle.node.specs.declared.DeliverReply.{DeliverReply}
 use Rattle.node.specs.declared.QueryReply.{QueryReply}
 use Rattle.node.specs.Answers.{deliverNumber}
 use Rattle.node.specs.Deliver as Deliver
-use Rattle.node.specs.Deliver.{deliverRefusal, showsQuorum, deliverRead, deliverRecords, deliverOf}
+use Rattle.verdicts.specs.Verdicts.{deliverRefusal, showsQuorum}
+use Rattle.node.specs.Deliver.{deliverRead, deliverRecords, deliverOf}
 use Rattle.node.specs.Query.{queryOf}
-use Rattle.node.specs.Give.{checkpointOf, checkpointSlice}
-use Rattle.node.specs.Claims.{Accepted, ShowsQuorum, DeliverRefused, announcement-malformed, sheet-malformed, rule, may-not-vote, voted-otherwise, Delivery, Asking, refuses, votes, performs, misses, opens}
+use Rattle.node.specs.Checkpoint.{checkpointOf, checkpointSlice}
+use Rattle.node.specs.Claims.{Accepted, ShowsQuorum, DeliverRefused, announcement-malformed, sheet-malformed, rule, may-not-vote, voted-otherwise}
+use Rattle.node.specs.Claims.{Delivery, Asking, refuses, votes, performs, misses, opens}
 use Rattle.node.proofs.Deliver.{deliver-comes-to}
 use Rattle.node.proofs.Numbers.{deliver-numbers}
 use Rattle.node.proofs.Query.{query-comes-to}
-use Rattle.node_c.specs.Image.{isWellFormedVote, isWellFormedOwn}
-use Rattle.marked_examples.proofs.Compute.{calls-by-value}
-use Rattle.assurance.specs.Interference.{CheckpointOfState, QueryKeepsState, Alike, RulesOfState, QueryKeepsAlike, OwnSeatMatters, SameQuorum, OrderOfRowsIsFree, MoreIsEnough}
+use Rattle.node.specs.WellFormed.{isWellFormedVote, isWellFormedOwn}
+use Rattle.examples.proofs.Compute.{calls-by-value}
+use Rattle.assurance.specs.Interference.{CheckpointOfState, QueryKeepsState, Alike, RulesOfState, QueryKeepsAlike, OwnSeatMatters, SameQuorum}
+use Rattle.assurance.specs.Interference.{OrderOfRowsIsFree, MoreIsEnough}
 use Rattle.assurance.proofs.Refusals.{deliver-number}
 use Rattle.assurance.proofs.More.{action-among, seats-among}
 
@@ -63,37 +68,41 @@ record Performing (n : Node) (ab sb : List ℕ) : Type 0 where
   quorum : ShowsQuorum n sb
 
 performing : (n : Node) (ab sb : List ℕ) (r : DeliverReply) → Delivery n ab sb r → r .answer ≡ Done → Performing n ab sb
-performing n ab sb r (refuses k y e) d = let t = deliver-numbers y in let z : k ≡ 0 = sym (deliver-number e) ∙ ap deliverNumber d in absurd (omega arith)
+performing n ab sb r (refuses k y e) d = let t = deliver-numbers y in let z : k ≡ 0 = sym (deliver-number e) ∙ ap deliverNumber d in absurd
+    (omega arith)
 performing n ab sb r (votes a acc few v e) d = let z : _≡_ {A = ℕ} 128 0 = sym (deliver-number e) ∙ ap deliverNumber d in absurd (omega arith)
 performing n ab sb r (performs a acc q e) d = record { announcement = a; accepted = acc; quorum = q }
 
 module _ (n k : Node) (same : Alike n k) (ab sb : List ℕ) where
   -- rules 3 to 14
-  refusal-alike : (a : Announcement) → deliverRefusal n a sb ≡ deliverRefusal k a sb
+  refusal-alike : (a : Announcement) → deliverRefusal (n .state) (n .own) a sb ≡ deliverRefusal (k .state) (k .own) a sb
   unfolding deliverRefusal
   refusal-alike a =
-      ap₂ (λ (b : Bool) (s : State). refuseIf b 3 orElse timeRefusal (s .cycle) (s .day) a orElse actionRefusal s (a .day) (level1 sb) (level2 sb) (a .action))
+      ap₂ (λ (b : Bool) (s : State). refuseIf b 3 orElse timeRefusal (s .cycle) (s .day) a orElse actionRefusal s (a .day) (level1 sb) (level2 sb)
+      (a .action))
       (same .halted) (same .state)
 
   -- rule 2, after rule 1
-  sheet-alike : (j : ℕ) → isSheet sb ≡ false → (o : AnnouncementRead) → deliverRecords n ab o sb .answer ≡ Refused j → deliverRecords k ab o sb .answer ≡ Refused j
+  sheet-alike : (j : ℕ) → isSheet sb ≡ false → (o : AnnouncementRead) → deliverRecords n ab o sb .answer ≡ Refused j
+      → deliverRecords k ab o sb .answer ≡ Refused j
   sheet-alike j rs Malformed e = e
   sheet-alike j rs (Read a) e = rw rs (rw rs at e)
 
   refused-alike : (j : ℕ) → j ≤ 14 → deliverOf n ab sb .answer ≡ Refused j → DeliverRefused n ab sb j → deliverOf k ab sb .answer ≡ Refused j
   unfolding deliverOf deliverRead
   refused-alike j l d (announcement-malformed e r) = rw (r, e)
-  refused-alike j l d (sheet-malformed e rs) = sheet-alike j rs (readAnnouncement ab) d
+  refused-alike j l d (sheet-malformed a e ra rs) = sheet-alike j rs (readAnnouncement ab) d
   refused-alike j l d (rule a ra rs lo hi e) = rw (ra, rs, ← refusal-alike a, e, ne-eqb j 0 (λ z. omega arith))
   refused-alike j l d (may-not-vote a e acc few v) = absurd (omega arith)
   refused-alike j l d (voted-otherwise a e acc few v o) = absurd (omega arith)
 
-  by-delivery : (j : ℕ) → j ≤ 14 → deliverOf n ab sb .answer ≡ Refused j → Delivery n ab sb (deliverOf n ab sb) → deliverOf k ab sb .answer ≡ Refused j
+  by-delivery : (j : ℕ) → j ≤ 14 → deliverOf n ab sb .answer ≡ Refused j → Delivery n ab sb (deliverOf n ab sb) → deliverOf k ab sb .answer
+      ≡ Refused j
   by-delivery j l d (refuses i y e) = refused-alike j l d (subst (DeliverRefused n ab sb) (sym (deliver-number e) ∙ ap deliverNumber d) y)
   by-delivery j l d (votes a acc few v e) = let z : 128 ≡ j = sym (deliver-number e) ∙ ap deliverNumber d in absurd (omega arith)
   by-delivery j l d (performs a acc q e) =
       let w : Done ≡ Refused j = sym (ap (λ (x : DeliverReply). x .answer) e) ∙ d in
-      absurd (let z : _≡_ {A = ℕ} 0 1 = cc in omega arith)
+      clash (cc)
 
   performing-alike : (p : Performing n ab sb) → deliverOf k ab sb ≡ Deliver.performs k (p .announcement)
   performing-alike p =
@@ -172,7 +181,11 @@ more-is-enough n ab sb tb d h =
       read = c .read;
       sheet = h .sheet;
       running = c .running;
-      admitted = record { time = c .admitted .time; action = action-among (n .state) (a .day) _ _ _ _ (h .mask1) (h .mask2) (a .action) (c .admitted .action) };
+      admitted = record {
+        time = c .admitted .time;
+        action = action-among (n .state) (a .day) _ _ _ _ (h .mask1) (h .mask2) (a .action)
+            (c .admitted .action);
+      };
     } in
     let shows : ShowsQuorum n tb = omega (arith, p .quorum, seats-among sb tb (h .rows) (n .state .seats)) in
     performed n ab tb a more shows ∙ sym (replied n ab sb p)

@@ -3,8 +3,6 @@ pub mod Length
 pub mod Refusals
 pub mod More
 pub mod Interference
-pub mod Lists
-pub mod Sheets
 pub mod Progress
 pub mod Tight
 pub mod Votes
@@ -12,7 +10,6 @@ pub mod Earned
 pub mod Unsteady
 pub mod Facts
 pub mod Notice
-pub mod Rows
 pub mod Provenance
 pub mod Lives
 pub mod Removed

@@ -18,7 +18,7 @@ use Rattle.records.specs.declared.Announcement.{Announcement}
 use Rattle.records.specs.declared.Action.{Action}
 use Rattle.records.specs.declared.Action.the-variants.{Propose, Cancel, Presents, Certify, Minima, Remove, Rejoin, Grant, End}
 use Rattle.checkpoint.specs.Checkpoint.{readCheckpoint}
-use Rattle.actions.specs.Perform.{perform, act, restand, relive, useProposal}
+use Rattle.actions.specs.Perform.{perform, act, withStanding, withLife, useProposal, effect}
 use Rattle.actions.specs.Claims.{WellFormed, Found}
 use Rattle.agreement.specs.History.{History}
 use Rattle.agreement.specs.Claims.{Park}
@@ -41,26 +41,31 @@ module _ (s : State) (a : Announcement) (i : ℕ) (w : WellFormed s) where
 
   -- the life after an action
   life-after : (x : Action) → Found s (a .day) x → here .life ≤ seatAt i (act s (a .day) x .seats) .life
-  unfolding act restand relive useProposal
-  life-after (Propose kind arguments) f = omega arith
+  unfolding act withStanding withLife useProposal effect
+  life-after (Propose x) f = omega arith
   life-after (Cancel c) f = omega arith
   life-after (Presents j flag) f = set-keeps (λ (y : Seat). here .life ≤ y .life) (s .seats) i j _ freeSeat (λ e. rw e (omega arith)) (omega arith)
-  life-after (Certify j life) f = set-keeps (λ (y : Seat). here .life ≤ y .life) (s .seats) i j _ freeSeat (λ e. let z = free-life s i w (rw e (f .0)) in omega arith) (omega arith)
-  life-after (Minima m k S) f = omega arith
+  life-after (Certify j life) f = set-keeps (λ (y : Seat). here .life ≤ y .life) (s .seats) i j _ freeSeat
+      (λ e. let z = free-life s i w (rw e f) in omega arith) (omega arith)
+  life-after (Minima x) f = omega arith
   life-after (Remove j) f = set-keeps (λ (y : Seat). here .life ≤ y .life) (s .seats) i j _ freeSeat (λ e. rw e (omega arith)) (omega arith)
-  life-after (Rejoin j life) f = set-keeps (λ (y : Seat). here .life ≤ y .life) (s .seats) i j _ freeSeat (λ e. rw e (let z = f .1 in omega arith)) (omega arith)
+  life-after (Rejoin j life) f = set-keeps (λ (y : Seat). here .life ≤ y .life) (s .seats) i j _ freeSeat (λ e. rw e (let z = f .1 in omega arith))
+      (omega arith)
   life-after (Grant x) f = omega arith
   life-after (End login) f = omega arith
 
   -- a retired seat after an action
   retired-after : (x : Action) → Found s (a .day) x → here .standing ≡ retired → seatAt i (act s (a .day) x .seats) .standing ≡ retired
-  unfolding act restand relive useProposal
-  retired-after (Propose kind arguments) f r = r
+  unfolding act withStanding withLife useProposal effect
+  retired-after (Propose x) f r = r
   retired-after (Cancel c) f r = r
-  retired-after (Presents j true) f r = set-keeps (λ (y : Seat). y .standing ≡ retired) (s .seats) i j _ freeSeat (λ e. absurd (let z = rw (← e, r) at f in omega arith)) r
-  retired-after (Presents j false) f r = set-keeps (λ (y : Seat). y .standing ≡ retired) (s .seats) i j _ freeSeat (λ e. absurd (let z = rw (← e, r) at f in omega arith)) r
-  retired-after (Certify j life) f r = set-keeps (λ (y : Seat). y .standing ≡ retired) (s .seats) i j _ freeSeat (λ e. absurd (let z = rw (← e, r) at (f .0) in omega arith)) r
-  retired-after (Minima m k S) f r = r
+  retired-after (Presents j true) f r = set-keeps (λ (y : Seat). y .standing ≡ retired) (s .seats) i j _ freeSeat
+      (λ e. absurd (let z = rw (← e, r) at f in omega arith)) r
+  retired-after (Presents j false) f r = set-keeps (λ (y : Seat). y .standing ≡ retired) (s .seats) i j _ freeSeat
+      (λ e. absurd (let z = rw (← e, r) at f in omega arith)) r
+  retired-after (Certify j life) f r = set-keeps (λ (y : Seat). y .standing ≡ retired) (s .seats) i j _ freeSeat
+      (λ e. absurd (let z = rw (← e, r) at f in omega arith)) r
+  retired-after (Minima x) f r = r
   retired-after (Remove j) f r = set-keeps (λ (y : Seat). y .standing ≡ retired) (s .seats) i j _ freeSeat (λ e. refl) r
   retired-after (Rejoin j life) f r = set-keeps (λ (y : Seat). y .standing ≡ retired) (s .seats) i j _ freeSeat (λ e. rw (← e) r) r
   retired-after (Grant x) f r = r
@@ -101,20 +106,23 @@ module _ (s : State) (d : Day) (i : ℕ) where
   From x life = (life ≡ seatAt i (s .seats) .life) ⊎ ((x ≡ Certify i life) ⊎ (x ≡ Rejoin i life))
 
   life-from : (x : Action) → From x (seatAt i (act s d x .seats) .life)
-  unfolding act restand relive useProposal
-  life-from (Propose kind arguments) = inl refl
+  unfolding act withStanding withLife useProposal effect
+  life-from (Propose x) = inl refl
   life-from (Cancel c) = inl refl
   life-from (Presents j flag) = set-keeps (λ (y : Seat). From (Presents j flag) (y .life)) (s .seats) i j _ freeSeat (λ e. inl (rw e refl)) (inl refl)
-  life-from (Certify j life) = set-keeps (λ (y : Seat). From (Certify j life) (y .life)) (s .seats) i j _ freeSeat (λ e. inr (inl (rw e refl))) (inl refl)
-  life-from (Minima m k S) = inl refl
+  life-from (Certify j life) = set-keeps (λ (y : Seat). From (Certify j life) (y .life)) (s .seats) i j _ freeSeat (λ e. inr (inl (rw e refl)))
+      (inl refl)
+  life-from (Minima x) = inl refl
   life-from (Remove j) = set-keeps (λ (y : Seat). From (Remove j) (y .life)) (s .seats) i j _ freeSeat (λ e. inl (rw e refl)) (inl refl)
-  life-from (Rejoin j life) = set-keeps (λ (y : Seat). From (Rejoin j life) (y .life)) (s .seats) i j _ freeSeat (λ e. inr (inr (rw e refl))) (inl refl)
+  life-from (Rejoin j life) = set-keeps (λ (y : Seat). From (Rejoin j life) (y .life)) (s .seats) i j _ freeSeat (λ e. inr (inr (rw e refl)))
+      (inl refl)
   life-from (Grant x) = inl refl
   life-from (End login) = inl refl
 
 module _ (first : State) (calls : History) (i : ℕ) where
   -- what a life stems from is also in the chain of the next state
-  later-stems : {r s : State} {life : ℕ} (a : Announcement) → Step calls r a → s ≡ perform r a → Stems first calls r i life → Stems first calls s i life
+  later-stems : {r s : State} {life : ℕ} (a : Announcement) → Step calls r a → s ≡ perform r a → Stems first calls r i life
+      → Stems first calls s i life
   later-stems a x e (at-first f) = at-first f
   later-stems {r} a x e (certified q b Q y f C) = certified q b Q y f (next r a C x e)
   later-stems {r} a x e (rejoined q b Q y f C) = rejoined q b Q y f (next r a C x e)
@@ -123,7 +131,8 @@ module _ (first : State) (calls : History) (i : ℕ) where
   unfolding perform
   stems (origin e) = at-first (ap (λ (z : State). seatAt i (z .seats) .life) (sym e))
   stems {s} (next r a R x e) =
-      subst (λ (n : ℕ). Stems first calls s i n) (ap (λ (z : State). seatAt i (z .seats) .life) (sym e)) (at (stems R) (life-from r (a .day) i (a .action)))
+      subst (λ (n : ℕ). Stems first calls s i n) (ap (λ (z : State). seatAt i (z .seats) .life) (sym e))
+      (at (stems R) (life-from r (a .day) i (a .action)))
     where
       at : Stems first calls r i (seatAt i (r .seats) .life) → From r (a .day) i (a .action) (seatAt i (perform r a .seats) .life)
           → Stems first calls s i (seatAt i (perform r a .seats) .life)
@@ -144,7 +153,7 @@ set-there (x ∷ xs) (suc i) y d n = set-there xs i y d n
 
 -- a rejoin gives the seat its life
 rejoin-life : (s : State) (d : Day) (i life : ℕ) → isActive (seatAt i (s .seats)) ≡ true → seatAt i (act s d (Rejoin i life) .seats) .life ≡ life
-unfolding act relive
+unfolding act withLife effect useProposal
 rejoin-life s d i life e = ap (λ (x : Seat). x .life) (set-there (s .seats) i _ freeSeat (λ z. false≢true (rw z at e)))
 
 pub earlier-lives-never-count : EarlierLivesNeverCount

@@ -1,6 +1,6 @@
 -- Sheets with at least the mask bits and rows of another count at least as many trustees and seats.
 use mathlib.Core.Path.{_≡_, refl, sym, ap, _∙_}
-use mathlib.Core.Bool.{Bool, true, false, not}
+use mathlib.Core.Bool.{Bool, true, false, cond, not}
 use mathlib.Core.List.{List}
 use Prim.Native.Nat.{ℕ, zero, suc, _*_, _^_, _/_, _%_, _≤_}
 use native.Mathlib.Nat.{div-one, div-div-eq-div-mul, pow-succ'}
@@ -12,19 +12,19 @@ use Rattle.state.specs.declared.Seat.{Seat}
 use Rattle.state.specs.declared.State.{State}
 use Rattle.state.specs.Trustees.{onesBelow, isMajority}
 use Rattle.records.specs.declared.Action.{Action}
-use Rattle.records.specs.declared.Action.the-variants.{Propose, Cancel, Presents, Certify, Minima, Remove, Rejoin, Grant, End}
+use Rattle.records.specs.Actions.{kindOf, levelOf}
 use Rattle.records.specs.Sheet.{rowsOf, counts, countedSeats}
 use Rattle.records.proofs.Counts.{counts-listed-life}
-use Rattle.actions.specs.Rules.{trusteeRefusal, actionRefusal, _orElse_}
-use Rattle.actions.proofs.Refusals.{passes-rule}
-use Rattle.assurance.proofs.Lists.{count-among}
+use Rattle.rules.specs.Rules.{isSigned, actionRefusal}
+use Rattle.refusals.proofs.Chains.{passes-rule}
+use Rattle.lists.proofs.Members.{count-among}
 use Rattle.assurance.specs.Interference.{RowsAmong, TrusteesAmong}
 
 -- ---- masks
 
 -- the lowest bit, and the other bits
-lowest : (n mask more : ℕ) → TrusteesAmong (suc n) mask more → mask % 2 ≤ more % 2
-lowest n mask more h = at (eqb (mask % 2) 1) refl
+lowest-bit : (n mask more : ℕ) → TrusteesAmong (suc n) mask more → mask % 2 ≤ more % 2
+lowest-bit n mask more h = at (eqb (mask % 2) 1) refl
   where
     at : (b : Bool) → eqb (mask % 2) 1 ≡ b → mask % 2 ≤ more % 2
     at true e =
@@ -42,31 +42,31 @@ halved n mask more h i l = rw (next-bit mask i, next-bit more i) (h (suc i) (ome
 ones-among : (n mask more : ℕ) → TrusteesAmong n mask more → onesBelow n mask ≤ onesBelow n more
 unfolding onesBelow
 ones-among zero mask more h = omega arith
-ones-among (suc n) mask more h = omega (arith, lowest n mask more h, ones-among n (mask / 2) (more / 2) (halved n mask more h))
+ones-among (suc n) mask more h = omega (arith, lowest-bit n mask more h, ones-among n (mask / 2) (more / 2) (halved n mask more h))
 
 majority-among : (n mask more : ℕ) → TrusteesAmong n mask more → isMajority n mask ≡ true → isMajority n more ≡ true
 unfolding isMajority
-majority-among n mask more h e = let l = ltb-true n (2 * onesBelow n mask) e in lt-ltb n (2 * onesBelow n more) (omega (arith, ones-among n mask more h, l))
+majority-among n mask more h e = let l = ltb-true n (2 * onesBelow n mask) e in lt-ltb n (2 * onesBelow n more)
+    (omega (arith, ones-among n mask more h, l))
 
--- rule 8 does not apply, and the rules after it are the same
-signed-among : (n mask more b : ℕ) → TrusteesAmong n mask more → (trusteeRefusal n mask orElse b) ≡ 0 → (trusteeRefusal n more orElse b) ≡ 0
-unfolding trusteeRefusal
-signed-among n mask more b h e =
-    let p = passes-rule (not (isMajority n mask)) 8 b refl e in
-    rw (majority-among n mask more h (not-false _ (p .0))) (p .1)
+-- Rule 8 does not apply either, whichever level signs, and the rules after it are the same.
+signed-among : (s : State) (level mask1 mask2 more1 more2 : ℕ) → TrusteesAmong (s .trustees1) mask1 more1 → TrusteesAmong (s .trustees2) mask2 more2
+    → isSigned s level mask1 mask2 ≡ true → isSigned s level more1 more2 ≡ true
+signed-among s level mask1 mask2 more1 more2 g h = at (eqb level 1)
+  where
+    at : (b : Bool) → cond b (isMajority (s .trustees1) mask1) (isMajority (s .trustees2) mask2) ≡ true
+        → cond b (isMajority (s .trustees1) more1) (isMajority (s .trustees2) more2) ≡ true
+    at true e = majority-among _ mask1 more1 g e
+    at false e = majority-among _ mask2 more2 h e
 
-pub action-among : (s : State) (d : Day) (mask1 mask2 more1 more2 : ℕ) → TrusteesAmong (s .trustees1) mask1 more1 → TrusteesAmong (s .trustees2) mask2 more2
+pub action-among : (s : State) (d : Day) (mask1 mask2 more1 more2 : ℕ) → TrusteesAmong (s .trustees1) mask1 more1 → TrusteesAmong
+    (s .trustees2) mask2 more2
     → (x : Action) → actionRefusal s d mask1 mask2 x ≡ 0 → actionRefusal s d more1 more2 x ≡ 0
 unfolding actionRefusal
-action-among s d mask1 mask2 more1 more2 g h (Propose kind arguments) = signed-among _ mask1 more1 _ g
-action-among s d mask1 mask2 more1 more2 g h (Cancel c) = signed-among _ mask1 more1 _ g
-action-among s d mask1 mask2 more1 more2 g h (Presents i flag) = signed-among _ mask1 more1 _ g
-action-among s d mask1 mask2 more1 more2 g h (Certify i life) = signed-among _ mask2 more2 _ h
-action-among s d mask1 mask2 more1 more2 g h (Minima m k S) = signed-among _ mask2 more2 _ h
-action-among s d mask1 mask2 more1 more2 g h (Remove i) = signed-among _ mask2 more2 _ h
-action-among s d mask1 mask2 more1 more2 g h (Rejoin i life) = signed-among _ mask1 more1 _ g
-action-among s d mask1 mask2 more1 more2 g h (Grant x) = signed-among _ mask1 more1 _ g
-action-among s d mask1 mask2 more1 more2 g h (End login) = signed-among _ mask1 more1 _ g
+action-among s d mask1 mask2 more1 more2 g h x e =
+    let level = levelOf (kindOf x) in
+    let p = passes-rule (not (isSigned s level mask1 mask2)) 8 _ refl e in
+    rw (signed-among s level mask1 mask2 more1 more2 g h (not-false _ (p .0))) (p .1)
 
 -- ---- rows
 
@@ -74,7 +74,8 @@ action-among s d mask1 mask2 more1 more2 g h (End login) = signed-among _ mask1 
 still-counts : (sb tb : List ℕ) → RowsAmong sb tb → (i : ℕ) (x : Seat) → counts (rowsOf sb) i x ≡ true → counts (rowsOf tb) i x ≡ true
 still-counts sb tb h i x e =
     let c = counts-listed-life (rowsOf sb) i x .0 e in
-    counts-listed-life (rowsOf tb) i x .1 (record { standing = c .standing; row = c .row; listed = h (c .row) (c .listed); seat = c .seat; life = c .life })
+    counts-listed-life (rowsOf tb) i x .1
+    (record { standing = c .standing; row = c .row; listed = h (c .row) (c .listed); seat = c .seat; life = c .life })
 
 pub seats-among : (sb tb : List ℕ) → RowsAmong sb tb → (seats : List Seat) → countedSeats (rowsOf sb) seats ≤ countedSeats (rowsOf tb) seats
 unfolding countedSeats

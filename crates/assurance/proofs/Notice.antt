@@ -4,26 +4,26 @@ use mathlib.Core.Logic.{_≢_, _⊎_, inl, inr}
 use mathlib.Core.Bool.{Bool, true, false, cond, not}
 use mathlib.Core.List.{List, [], _∷_, _++_, List·Memᴰ, List·Memᴰ·head, List·Memᴰ·tail, List·Memᴰ·cases-cons, List·Memᴰ·not-nil}
 use Prim.Native.Nat.{ℕ, zero, suc, _-_}
-use native.Mathlib.Omega.{arith}
 use lib.ListN.{length, replicate}
 use Rattle.lists.specs.Table.{keep, fill, replaceFirst}
 use Rattle.state.specs.declared.Proposal.{Proposal}
 use Rattle.state.specs.declared.State.{State}
 use Rattle.state.specs.declared.Cycle.{Cycle}
-use Rattle.state.specs.Trustees.{isMajority}
-use Rattle.state.specs.Proposals.{noProposal, isProposal, isOfCycle, addProposal, dropProposal}
+use Rattle.state.specs.declared.Subject.{Subject}
+use Rattle.state.specs.Limits.{proposalRows}
+use Rattle.state.specs.Rows.{noProposal, isProposal}
+use Rattle.tables.specs.Proposals.{isOfCycle, addProposal, dropProposal}
 use Rattle.records.specs.declared.Announcement.{Announcement}
 use Rattle.records.specs.declared.Action.{Action}
 use Rattle.records.specs.declared.Action.the-variants.{Propose, Cancel, Presents, Certify, Minima, Remove, Rejoin, Grant, End}
-use Rattle.records.specs.Sheet.{level1, level2}
 use Rattle.checkpoint.specs.Checkpoint.{readCheckpoint}
-use Rattle.actions.specs.Perform.{perform, act, restand, relive, useProposal}
-use Rattle.actions.specs.Claims.{Notice, Signed, Found}
+use Rattle.actions.specs.Perform.{perform, act, withStanding, withLife, useProposal, effect}
+use Rattle.actions.specs.Claims.{Signed}
 use Rattle.agreement.specs.History.{History}
 use Rattle.agreement.specs.Claims.{Park}
 use Rattle.agreement.specs.Chain.{Step, Reached, origin, next}
-use Rattle.assurance.specs.Notice.{Listed, Proposed, at-first, announced, IsSubject, Noticed, AlwaysNoticed}
-use Rattle.assurance.proofs.Facts.{step-signed, step-found, step-reached}
+use Rattle.assurance.specs.Notice.{Listed, Proposed, at-first, announced, AlwaysNoticed}
+use Rattle.assurance.proofs.Facts.{step-signed, step-notified, step-reached}
 
 -- ---- members of a table after a change
 
@@ -79,40 +79,41 @@ module _ {A : Type 0} where
       there (inl k) = inl (List·Memᴰ·tail k)
       there (inr e) = inr e
 
-      at : (y ≡ z) ⊎ List·Memᴰ y (xs ++ replicate n d) → (List·Memᴰ y (xs ++ replicate n d) → List·Memᴰ y xs ⊎ (y ≡ d)) → List·Memᴰ y (z ∷ xs) ⊎ (y ≡ d)
+      at : (y ≡ z) ⊎ List·Memᴰ y (xs ++ replicate n d) → (List·Memᴰ y (xs ++ replicate n d) → List·Memᴰ y xs ⊎ (y ≡ d)) → List·Memᴰ y (z ∷ xs) ⊎
+          (y ≡ d)
       at (inl e) ih = inl (List·Memᴰ·head e)
       at (inr k) ih = there (ih k)
 
 -- a used row that is left after a drop was there before
-of-drop : (c : Cycle) (r : Proposal) (rows : List Proposal) → r .kind ≢ 0 → List·Memᴰ r (dropProposal c rows) → List·Memᴰ r rows
+of-drop : (c : Cycle) (r : Proposal) (rows : List Proposal) → r .subject .kind ≢ 0 → List·Memᴰ r (dropProposal c rows) → List·Memᴰ r rows
 unfolding dropProposal fill
 of-drop c r rows u m =
     let kept = keep (λ x. not (isOfCycle c x)) rows in
-    at (of-append-same (16 - length kept) r noProposal kept m)
+    at (of-append-same (proposalRows - length kept) r noProposal kept m)
   where
     at : List·Memᴰ r (keep (λ x. not (isOfCycle c x)) rows) ⊎ (r ≡ noProposal) → List·Memᴰ r rows
     at (inl k) = of-keep (λ x. not (isOfCycle c x)) r rows k
-    at (inr e) = absurd (u (ap (λ (x : Proposal). x .kind) e))
+    at (inr e) = absurd (u (ap (λ (x : Proposal). x .subject .kind) e))
 
 -- ---- a step
 
 -- the row of a propose
-abbrev rowOf : State → Announcement → ℕ → ℕ → Proposal
-rowOf s a kind arguments = record { cycle = s .cycle; day = a .day; kind = kind; arguments = arguments }
+abbrev rowOf : State → Announcement → Subject → Proposal
+rowOf s a x = record { cycle = s .cycle; day = a .day; subject = x }
 
 -- a used row after a step: it was there before, or is the row of the propose
-before : (s : State) (a : Announcement) (r : Proposal) → r .kind ≢ 0 → (x : Action) → List·Memᴰ r (act s (a .day) x .proposals)
-    → Listed r s ⊎ ((x ≡ Propose (r .kind) (r .arguments)) × (r ≡ rowOf s a (r .kind) (r .arguments)))
-unfolding act restand relive useProposal addProposal
-before s a r u (Propose kind arguments) m = at (of-replace (λ y. not (isProposal y)) (rowOf s a kind arguments) r (s .proposals) m)
+before : (s : State) (a : Announcement) (r : Proposal) → r .subject .kind ≢ 0 → (x : Action) → List·Memᴰ r (act s (a .day) x .proposals)
+    → Listed r s ⊎ ((x ≡ Propose (r .subject)) × (r ≡ rowOf s a (r .subject)))
+unfolding act effect withStanding withLife useProposal addProposal
+before s a r u (Propose x) m = at (of-replace (λ y. not (isProposal y)) (rowOf s a x) r (s .proposals) m)
   where
-    at : (r ≡ rowOf s a kind arguments) ⊎ Listed r s → Listed r s ⊎ ((Propose kind arguments ≡ Propose (r .kind) (r .arguments)) × (r ≡ rowOf s a (r .kind) (r .arguments)))
+    at : (r ≡ rowOf s a x) ⊎ Listed r s → Listed r s ⊎ ((Propose x ≡ Propose (r .subject)) × (r ≡ rowOf s a (r .subject)))
     at (inl e) = inr (rw e (refl, refl))
     at (inr k) = inl k
 before s a r u (Cancel c) m = inl (of-drop c r (s .proposals) u m)
 before s a r u (Presents i flag) m = inl m
 before s a r u (Certify i life) m = inl (of-drop _ r (s .proposals) u m)
-before s a r u (Minima n k S) m = inl (of-drop _ r (s .proposals) u m)
+before s a r u (Minima x) m = inl (of-drop _ r (s .proposals) u m)
 before s a r u (Remove i) m = inl (of-drop _ r (s .proposals) u m)
 before s a r u (Rejoin i life) m = inl m
 before s a r u (Grant x) m = inl m
@@ -120,7 +121,7 @@ before s a r u (End login) m = inl m
 
 -- ---- the chain
 
-module _ (first : List ℕ) (calls : History) (park : Park first calls) (r : Proposal) (used : r .kind ≢ 0) where
+module _ (first : List ℕ) (calls : History) (park : Park first calls) (r : Proposal) (used : r .subject .kind ≢ 0) where
   abbrev From : State → Type 0
   From u = Proposed (readCheckpoint first .state) calls u r
 
@@ -133,39 +134,23 @@ module _ (first : List ℕ) (calls : History) (park : Park first calls) (r : Pro
   stems {u} (origin e) m = at-first (subst (Listed r) e m) (origin e)
   stems {u} (next q a R x e) m = at (stems R) (before q a r used (a .action) (subst (Listed r) e m))
     where
-      at : (Listed r q → From q) → Listed r q ⊎ ((a .action ≡ Propose (r .kind) (r .arguments)) × (r ≡ rowOf q a (r .kind) (r .arguments))) → From u
+      at : (Listed r q → From q) → Listed r q ⊎ ((a .action ≡ Propose (r .subject)) × (r ≡ rowOf q a (r .subject))) → From u
       at ih (inl l) = later a x l e (ih l)
       at ih (inr p) =
           announced q a x R (p .0) (ap (λ (z : Proposal). z .cycle) (p .1)) (ap (λ (z : Proposal). z .day) (p .1))
           (subst (Signed q _ _) (p .0) (step-signed first calls park q a x)) (origin e)
 
--- ---- a certify, minima or remove
-
-module _ (first : List ℕ) (calls : History) (park : Park first calls) (u : State) (b : Announcement) (x : Step calls u b) where
-  of-notice : (kind arguments : ℕ) → kind ≢ 0 → Notice u (b .day) kind arguments → isMajority (u .trustees2) (level2 (x .sheet)) ≡ true
-      → Noticed (readCheckpoint first .state) calls u b x kind arguments
-  of-notice kind arguments z n m = record {
-    row = n .proposal;
-    listed = n .listed;
-    same-kind = n .notice .same-kind;
-    same-arguments = n .notice .same-arguments;
-    days = n .notice .days;
-    proposed = stems first calls park (n .proposal) (λ e. z (sym (n .notice .same-kind) ∙ e)) (step-reached first calls park u b x) (n .listed);
-    signed = m;
-  }
-
-  by-action : (y : Action) → Found u (b .day) y → Signed u (level1 (x .sheet)) (level2 (x .sheet)) y → (kind arguments : ℕ) → IsSubject y kind arguments
-      → Noticed (readCheckpoint first .state) calls u b x kind arguments
-  by-action (Certify i life) f g kind arguments e = rw (e .0, e .1) (of-notice 4 _ (λ z. omega arith) (f .1) g)
-  by-action (Minima m k S) f g kind arguments e = rw (e .0, e .1) (of-notice 5 _ (λ z. omega arith) f g)
-  by-action (Remove i) f g kind arguments e = rw (e .0, e .1) (of-notice 6 _ (λ z. omega arith) (f .1) g)
-  by-action (Propose k y) f g kind arguments e = absurd e
-  by-action (Cancel c) f g kind arguments e = absurd e
-  by-action (Presents i flag) f g kind arguments e = absurd e
-  by-action (Rejoin i life) f g kind arguments e = absurd e
-  by-action (Grant y) f g kind arguments e = absurd e
-  by-action (End login) f g kind arguments e = absurd e
+-- ---- an action that has a subject
 
 pub always-noticed : AlwaysNoticed
-always-noticed first calls park u b x kind arguments e =
-    by-action first calls park u b x (b .action) (step-found first calls park u b x) (step-signed first calls park u b x) kind arguments e
+always-noticed first calls park u b x z =
+    let n = step-notified first calls park u b x z in
+    record {
+      row = n .proposal;
+      listed = n .listed;
+      notice = n .notice;
+      proposed =
+          stems first calls park (n .proposal) (λ e. z (ap (λ (y : Subject). y .kind) (sym (n .notice .same)) ∙ e))
+          (step-reached first calls park u b x) (n .listed);
+      signed = step-signed first calls park u b x;
+    }

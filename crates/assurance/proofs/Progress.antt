@@ -8,33 +8,37 @@ use native.Mathlib.Nat.{le-trans}
 use native.Mathlib.Omega.{arith}
 use lib.ListN.{length, length-map}
 use borrow.Author.Tests.{eq-eqb, ne-eqb, ltb-true, le-leb, lt-leb}
+use Rattle.lists.proofs.Tests.{clash}
 use Rattle.lists.specs.Fold.{any, countFrom}
 use Rattle.state.specs.declared.Seat.{Seat}
 use Rattle.state.specs.declared.State.{State}
 use Rattle.state.specs.Seats.{present, retired, freeSeat, seatAt, isPresent, quorum, quorumOf}
 use Rattle.records.specs.declared.Announcement.{Announcement}
-use Rattle.records.specs.declared.Row.{Row}
-use Rattle.records.specs.Sheet.{level1, level2, rowsOf, counts, countedSeats}
+use Rattle.records.specs.Sheet.{Row, level1, level2, rowsOf, counts, countedSeats}
 use Rattle.records.proofs.Counts.{counts-listed-life}
 use Rattle.actions.specs.Claims.{Admitted}
 use Rattle.node.specs.declared.Node.{Node}
 use Rattle.node.specs.declared.DeliverReply.{DeliverReply}
 use Rattle.node.specs.declared.DeliverAnswer.the-variants.{Voted}
 use Rattle.node.proofs.Deliver.{same-bytes}
-use Rattle.node.specs.Own.{ownSeat, votedOtherwise}
-use Rattle.node.specs.Deliver.{deliverRefusal, showsQuorum, voteRefusal, deliverRead, deliverOf}
+use Rattle.verdicts.specs.Own.{heldSeat, votedOtherwise}
+use Rattle.verdicts.specs.Verdicts.{deliverRefusal, showsQuorum, voteRefusal}
+use Rattle.node.specs.Deliver.{deliverRead, deliverOf}
 use Rattle.node.specs.Claims as Claims
 use Rattle.node.specs.Claims.{MayVote, Delivery, refuses}
 use Rattle.node.proofs.Deliver.{deliver-comes-to}
-use Rattle.node_c.specs.Image.{isWellFormedOwn}
-use Rattle.node_c.specs.Claims.{WellFormedNode}
-use Rattle.assurance.specs.Sheets.{sheetOf, RowInRange}
-use Rattle.assurance.specs.Progress.{Votes, Distinct, QuorumOfVotes, Performs, rowOf, Voter, VotesPerform}
-use Rattle.assurance.proofs.Lists.{to-map, of-map, at-least, below}
-use Rattle.assurance.proofs.Sheets.{sheets-read-back}
+use Rattle.node.specs.WellFormed.{isWellFormedOwn}
+use Rattle.node.specs.WellFormed.{WellFormedNode}
+use Rattle.records.specs.Sheet.{sheetOf}
+use Rattle.records.specs.Claims.{RowInRange}
+use Rattle.lists.specs.Fold.{Distinct}
+use Rattle.assurance.specs.Progress.{Votes, QuorumOfVotes, Performs, rowOf, Voter, VotesPerform}
+use Rattle.lists.proofs.Members.{to-map, of-map, at-least, below}
+use Rattle.records.proofs.SheetsBack.{sheets-read-back}
 
 -- No number from 3 to 14 applies.
-no-refusal : (n : Node) (sb : List ℕ) (a : Announcement) → ownSeat n .standing ≢ retired → Admitted (n .state) a (level1 sb) (level2 sb) → deliverRefusal n a sb ≡ 0
+no-refusal : (n : Node) (sb : List ℕ) (a : Announcement) → heldSeat (n .state) (n .own) .standing ≢ retired → Admitted (n .state) a (level1 sb)
+    (level2 sb) → deliverRefusal (n .state) (n .own) a sb ≡ 0
 unfolding deliverRefusal
 no-refusal n sb a r d = rw (ne-eqb _ _ r, d .time, d .action)
 
@@ -54,19 +58,19 @@ no-quorum : (s : State) (sb : List ℕ) → rowsOf sb ≡ [] → showsQuorum s s
 unfolding showsQuorum countedSeats
 no-quorum s sb e = rw (e, none-counts 0 (s .seats)) (lt-leb _ _ (quorum-from-one s))
 
-not-otherwise : (n : Node) (ab : List ℕ) → (n .own .voted ≡ false) ⊎ (n .own .vote ≡ ab) → votedOtherwise n ab ≡ false
+not-otherwise : (n : Node) (ab : List ℕ) → (n .own .voted ≡ false) ⊎ (n .own .vote ≡ ab) → votedOtherwise (n .own) ab ≡ false
 not-otherwise n ab (inl e) = rw e
 not-otherwise n ab (inr e) = rw (e, same-bytes ab) (and-false (n .own .voted))
 
 -- Neither 15 nor 16 applies.
-no-vote-refusal : (n : Node) (ab : List ℕ) → MayVote n → (n .own .voted ≡ false) ⊎ (n .own .vote ≡ ab) → voteRefusal n ab ≡ 0
+no-vote-refusal : (n : Node) (ab : List ℕ) → MayVote n → (n .own .voted ≡ false) ⊎ (n .own .vote ≡ ab) → voteRefusal (n .state) (n .own) ab ≡ 0
 unfolding voteRefusal
 no-vote-refusal n ab m v = rw (eq-eqb _ _ (m .standing), eq-eqb _ _ (m .life), not-otherwise n ab v)
 
 pub votes : Votes
 unfolding deliverOf deliverRead
 votes n ab sb a u e m v =
-    let running : ownSeat n .standing ≢ retired = λ r. let z : _≡_ {A = ℕ} 2 3 = sym (m .standing) ∙ r in omega arith in
+    let running : heldSeat (n .state) (n .own) .standing ≢ retired = λ r. let z : _≡_ {A = ℕ} 2 3 = sym (m .standing) ∙ r in omega arith in
     rw (u .read, u .sheet, no-refusal n sb a running (u .admitted), no-quorum (n .state) sb e, no-vote-refusal n ab m v)
 
 -- ---- a quorum performs
@@ -90,13 +94,13 @@ performs n ab sb a u q r = rw (u .read, u .sheet, no-refusal n sb a r (u .admitt
 
 -- A node that answers voted may vote.
 voted : (n : Node) (ab sb : List ℕ) (r : DeliverReply) → Delivery n ab sb r → r .answer ≡ Voted → MayVote n
-voted n ab sb r (refuses k w e) v = let z : _≡_ {A = ℕ} 0 1 = cc in absurd (omega arith)
+voted n ab sb r (refuses k w e) v = clash (cc)
 voted n ab sb r (Claims.votes a w few m e) v = m
-voted n ab sb r (Claims.performs a w q e) v = let z : _≡_ {A = ℕ} 0 1 = cc in absurd (omega arith)
+voted n ab sb r (Claims.performs a w q e) v = clash (cc)
 
 in-range : (n : Node) → WellFormedNode n → RowInRange (rowOf n)
 unfolding isWellFormedOwn
-in-range n w = let t = simp and-eq-true-iff at (w .own) in (ltb-true _ _ (t .0), w .fits .1 .1 .0)
+in-range n w = let t = simp and-eq-true-iff at (w .own) in (ltb-true _ _ (t .0), w .fits .1 .0 .1)
 
 module _ (s : State) (ab : List ℕ) (voters : List Node) (each : (n : Node) → List·Memᴰ n voters → Voter s ab n) where
   abbrev seatOf : Node → ℕ

@@ -10,19 +10,21 @@ use borrow.Author.Tests.{eqb-true}
 use Rattle.lists.specs.Fold.{first}
 use Rattle.state.specs.declared.Login.{Login}
 use Rattle.state.specs.declared.State.{State}
-use Rattle.state.specs.Logins.{noLogin, isLogin, isNamed, findLogin, isListed, grantLogin}
-use Rattle.state.proofs.Logins.{unlisted-ended}
+use Rattle.state.specs.Rows.{noLogin, isLogin}
+use Rattle.tables.specs.Logins.{isNamed, findLogin, isListed, grantLogin}
+use Rattle.tables.proofs.LoginTable.{unlisted-ended}
 use Rattle.records.specs.declared.Announcement.{Announcement}
 use Rattle.records.specs.declared.Action.{Action}
 use Rattle.records.specs.declared.Action.the-variants.{Propose, Cancel, Presents, Certify, Minima, Remove, Rejoin, Grant, End}
+use Rattle.records.specs.Actions.{kindOf}
 use Rattle.checkpoint.specs.Checkpoint.{readCheckpoint}
-use Rattle.actions.specs.Perform.{perform, act, restand, relive, useProposal}
+use Rattle.actions.specs.Perform.{perform, act, withStanding, withLife, useProposal, effect}
 use Rattle.agreement.specs.History.{History}
 use Rattle.agreement.specs.Chain.{Step, Reached, origin, next}
 use Rattle.agreement.proofs.Steps.{always}
 use Rattle.agreement.proofs.Demand.{opens, not-before-given}
 use Rattle.assurance.specs.Provenance.{Leaves, Provenance, at-first, granted, OpenIsGranted}
-use Rattle.assurance.proofs.Rows.{grant-found, grant-others, end-others}
+use Rattle.tables.proofs.FoundLogins.{grant-found, grant-others, end-others}
 
 -- a row that is found has the name
 found-named : (login : ℕ) (rows : List Login) → isListed login rows ≡ true → findLogin login rows .login ≡ login
@@ -41,18 +43,6 @@ data After (login : ℕ) (r : State) (a : Announcement) : Type 0 where
   grants : a .action ≡ Grant (findLogin login (perform r a .logins)) → After login r a
   leaves : Leaves login a → findLogin login (perform r a .logins) ≡ findLogin login (r .logins) → After login r a
 
--- the number of an action's kind
-abbrev kindOf : Action → ℕ
-kindOf (Propose kind arguments) = 1
-kindOf (Cancel c) = 2
-kindOf (Presents i flag) = 3
-kindOf (Certify i life) = 4
-kindOf (Minima m k S) = 5
-kindOf (Remove i) = 6
-kindOf (Rejoin i life) = 7
-kindOf (Grant x) = 8
-kindOf (End login) = 9
-
 module _ (login : ℕ) (r : State) (a : Announcement) (listed : isListed login (perform r a .logins) ≡ true) where
   -- an action that is neither a grant nor an end
   other : (x : Action) → a .action ≡ x → kindOf x ≤ 7 → findLogin login (perform r a .logins) ≡ findLogin login (r .logins) → After login r a
@@ -65,12 +55,12 @@ module _ (login : ℕ) (r : State) (a : Announcement) (listed : isListed login (
       same
 
   after : (x : Action) → a .action ≡ x → After login r a
-  unfolding perform act restand relive useProposal
-  after (Propose kind arguments) e = other _ e (omega arith) (rw e refl)
+  unfolding perform act withStanding withLife useProposal effect
+  after (Propose x) e = other _ e (omega arith) (rw e refl)
   after (Cancel c) e = other _ e (omega arith) (rw e refl)
   after (Presents i flag) e = other _ e (omega arith) (rw e refl)
   after (Certify i life) e = other _ e (omega arith) (rw e refl)
-  after (Minima m k S) e = other _ e (omega arith) (rw e refl)
+  after (Minima x) e = other _ e (omega arith) (rw e refl)
   after (Remove i) e = other _ e (omega arith) (rw e refl)
   after (Rejoin i life) e = other _ e (omega arith) (rw e refl)
   after (Grant x) e = at (ℕ-discrete (x .login) login)
@@ -106,10 +96,12 @@ module _ (first : State) (calls : History) (login : ℕ) where
   later {r} a x l e (at-first f S) = at-first f (next r a S (x, l) e)
   later {r} a x l e (granted q b Q y f S) = granted q b Q y f (next r a S (x, l) e)
 
-  stems : {u : State} → Reached first (Step calls) u → isListed login (u .logins) ≡ true → Provenance first calls login u (findLogin login (u .logins))
+  stems : {u : State} → Reached first (Step calls) u → isListed login (u .logins) ≡ true → Provenance first calls login u
+      (findLogin login (u .logins))
   unfolding isListed
   stems (origin e) listed = at-first (ap (λ (z : State). findLogin login (z .logins)) (sym e)) (origin e)
-  stems {u} (next r a R x e) listed = at (stems R) (after login r a (ap (λ (z : State). isListed login (z .logins)) (sym e) ∙ listed) (a .action) refl)
+  stems {u} (next r a R x e) listed = at (stems R)
+      (after login r a (ap (λ (z : State). isListed login (z .logins)) (sym e) ∙ listed) (a .action) refl)
     where
       here : findLogin login (perform r a .logins) ≡ findLogin login (u .logins)
       here = ap (λ (z : State). findLogin login (z .logins)) (sym e)

@@ -9,7 +9,7 @@ use native.Mathlib.Omega.{arith}
 use lib.Dec.{eqb, leb}
 use lib.ListN.{length, take}
 use borrow.Author.Tests.{eqb-true, eq-eqb, ne-eqb}
-use Rattle.lists.proofs.Tests.{cond-cases}
+use Rattle.lists.proofs.Tests.{clash, cond-cases}
 use Rattle.binary.specs.Number.{overwrite}
 use Rattle.node.specs.declared.Node.{Node}
 use Rattle.node.specs.declared.StartReply.{StartReply}
@@ -18,19 +18,23 @@ use Rattle.node.specs.declared.QueryReply.{QueryReply}
 use Rattle.node.specs.declared.CheckpointAnswer.{CheckpointAnswer}
 use Rattle.node.specs.declared.CheckpointAnswer.the-variants.{Given, Refused}
 use Rattle.node.specs.Answers.{startNumber, deliverNumber, queryNumber, checkpointNumber}
-use Rattle.node.specs.Give.{checkpointSize, checkpointOf, checkpointSlice}
+use Rattle.checkpoint.specs.Layout.{checkpointSize}
+use Rattle.node.specs.Checkpoint.{checkpointOf, checkpointSlice}
 use Rattle.node.specs.Claims.{Starting, Delivery, Asking, refuses, starts, votes, performs, misses, opens}
 use Rattle.node.proofs.Start.{start-comes-to}
 use Rattle.node.proofs.Deliver.{deliver-comes-to}
 use Rattle.node.proofs.Query.{query-comes-to}
 use Rattle.node.proofs.Numbers.{start-numbers, deliver-numbers, query-numbers}
-use Rattle.node_c.specs.Image.{imageSize, imageBytes, isImage, readImage}
+use Rattle.image.specs.Layout.{imageSize}
+use Rattle.image.specs.Image.{imageBytes, isImage, readImage}
 use Rattle.node_c.specs.Calls.{HandedBack, started, delivered, asked, Returned, return, onImage, nodeStart, nodeDeliver, nodeQuery, nodeCheckpoint}
 use Rattle.node_c.specs.Claims.{Writes, Returning, no-room, writes, leaves}
 use Rattle.node_c.proofs.Calls.{calls-return, writes-to, leaves-to, image-ok}
-use Rattle.agreement.specs.History.{byValue, throughC, start, deliver, query, checkpoint, Cluster, Outcome, onNode, keepImage, onHeldImage, keepCheckpoint, checkpointNode, checkpointImage, run}
+use Rattle.agreement.specs.History.{byValue, throughC, start, deliver, query, checkpoint, Cluster, Outcome, onNode, keepImage, onHeldImage}
+use Rattle.agreement.specs.History.{keepCheckpoint, checkpointNode, checkpointImage, run}
 use Rattle.agreement.proofs.Calls.{front}
-use Rattle.assurance.specs.Refusals.{Refusal, AddsMiss, Unchanged, RefusalsChangeNothing, oneMissMore, MissedByValue, MissedThroughC, MissesAddOne, KeepsSlice, SlicesKept}
+use Rattle.assurance.specs.Refusals.{Refusal, AddsMiss, Unchanged, RefusalsChangeNothing, oneMissMore, MissedByValue, MissedThroughC}
+use Rattle.assurance.specs.Refusals.{MissesAddOne, KeepsSlice, SlicesKept}
 use Rattle.assurance.proofs.Length.{missed-size}
 
 -- ---- what the calls by value hand back
@@ -44,8 +48,10 @@ query-number e = ap (λ (x : QueryReply). queryNumber (x .answer)) e
 
 -- 19, 20 and 21 are not answers of a start or a deliver
 start-adds-none : (cb sb : List ℕ) (r : StartReply) → Starting cb sb r → ¬ AddsMiss (startNumber (r .answer))
-start-adds-none cb sb r (refuses k y e) m = let t = start-numbers y in let q : startNumber (r .answer) ≡ k = ap startNumber e in omega arith
-start-adds-none cb sb r (starts x rx rc active above e) m = let q : startNumber (r .answer) ≡ 0 = ap (λ (x : StartReply). startNumber (x .answer)) e in omega arith
+start-adds-none cb sb r (refuses k y e) m = let t = start-numbers y in let q : startNumber (r .answer) ≡ k = ap
+    (λ (x : StartReply). startNumber (x .answer)) e in omega arith
+start-adds-none cb sb r (starts x rx rc active above e) m = let q : startNumber (r .answer) ≡ 0 = ap
+    (λ (x : StartReply). startNumber (x .answer)) e in omega arith
 
 deliver-adds-none : (n : Node) (ab sb : List ℕ) (r : DeliverReply) → Delivery n ab sb r → ¬ AddsMiss (deliverNumber (r .answer))
 deliver-adds-none n ab sb r (refuses k y e) m =
@@ -62,7 +68,8 @@ deliver-same n ab sb r (votes a acc few v e) h = absurd (h .1 (deliver-number e)
 deliver-same n ab sb r (performs a acc c e) h = absurd (h .0 (deliver-number e))
 
 -- a refused query hands back the node, or the node with one miss more
-query-same : (n : Node) (qb : List ℕ) (r : QueryReply) → Asking n qb r → Refusal (queryNumber (r .answer)) → ¬ AddsMiss (queryNumber (r .answer)) → r .node ≡ n
+query-same : (n : Node) (qb : List ℕ) (r : QueryReply) → Asking n qb r → Refusal (queryNumber (r .answer)) → ¬ AddsMiss (queryNumber (r .answer))
+    → r .node ≡ n
 query-same n qb r (refuses k l y e) h m = ap (λ (x : QueryReply). x .node) e
 query-same n qb r (misses k l b y e) h m =
     let t = query-numbers y in
@@ -95,11 +102,13 @@ record MissReturned (r : HandedBack) (out : List ℕ) (x : Returned) : Type 0 wh
 
 returned-miss : (r : HandedBack) (out : List ℕ) (x : Returned) → Returning r out x → AddsMiss (x .number) → MissReturned r out x
 returned-miss r out x (no-room l a b e) m = let q : x .number ≡ 22 = ap (λ (y : Returned). y .number) e in absurd (omega arith)
-returned-miss r out x (writes l v e) m = record { adds = subst AddsMiss (ap (λ (y : Returned). y .number) e) m; slice = ap (λ (y : Returned). y .slice) e }
+returned-miss r out x (writes l v e) m =
+    record { adds = subst AddsMiss (ap (λ (y : Returned). y .number) e) m; slice = ap (λ (y : Returned). y .slice) e }
 returned-miss r out x (leaves n p e) m = absurd (n (inr (inr (subst AddsMiss (ap (λ (y : Returned). y .number) e) m))))
 
 -- on an image
-image-kept : (f : Node → HandedBack) (image out : List ℕ) → Refusal (onImage f image out .number) → ¬ AddsMiss (onImage f image out .number) → onImage f image out .slice ≡ out
+image-kept : (f : Node → HandedBack) (image out : List ℕ) → Refusal (onImage f image out .number) → ¬ AddsMiss (onImage f image out .number)
+    → onImage f image out .slice ≡ out
 unfolding onImage
 image-kept f image out =
     cond-cases (λ (x : Returned). Refusal (x .number) → ¬ AddsMiss (x .number) → x .slice ≡ out) (readImage image .ok)
@@ -121,7 +130,8 @@ image-miss f image out =
 query-image : (image qb out : List ℕ) → MissOnImage (asked qb) image out (onImage (asked qb) image out)
     → onImage (asked qb) image out .slice ≡ overwrite (imageBytes (oneMissMore (readImage image .node))) out
 query-image image qb out x =
-    x .returned .slice ∙ ap (λ (n : Node). overwrite (imageBytes n) out) (query-misses (readImage image .node) qb _ (query-comes-to (readImage image .node) qb) (x .returned .adds))
+    x .returned .slice ∙ ap (λ (n : Node). overwrite (imageBytes n) out)
+    (query-misses (readImage image .node) qb _ (query-comes-to (readImage image .node) qb) (x .returned .adds))
 
 -- a refused checkpoint
 slice-by : (bytes out : List ℕ) (b : Bool) → cond b Given (Refused 22) ≢ Given → cond b bytes out ≡ out
@@ -134,7 +144,8 @@ checkpoint-kept n out = slice-by _ out (leb checkpointSize (length out))
 
 image-checkpoint-kept : (image out : List ℕ) → KeepsSlice out (nodeCheckpoint image out)
 unfolding nodeCheckpoint
-image-checkpoint-kept image out = cond-cases (KeepsSlice out) (readImage image .ok) (λ e h. checkpoint-kept _ out (λ g. h .0 (ap checkpointNumber g))) (λ e h. refl)
+image-checkpoint-kept image out = cond-cases (KeepsSlice out) (readImage image .ok) (λ e h. checkpoint-kept _ out (λ g. h .0 (ap checkpointNumber g)))
+    (λ e h. refl)
 
 -- nor of one through C
 image-start-adds-none : (cb sb out : List ℕ) → ¬ AddsMiss (return (started cb sb) out .number)
@@ -162,15 +173,16 @@ still : (w : Cluster) → Unchanged w w
 still w = record { nodes = λ i. refl; images = λ i. refl; given = refl }
 
 -- a call that is answered finds something at its host
-answered : {A : Type 0} (P : Option A → Type 0) (f : Option A → Outcome) (k : ℕ) → f none .answer ≡ none → ((x : A) → f (some x) .answer ≡ some k → P (some x))
+answered : {A : Type 0} (P : Option A → Type 0) (f : Option A → Outcome) (k : ℕ) → f none .answer ≡ none →
+    ((x : A) → f (some x) .answer ≡ some k → P (some x))
     → (o : Option A) → f o .answer ≡ some k → P o
-answered P f k e g none a = absurd (let z : _≡_ {A = ℕ} 0 1 = cc in omega arith)
+answered P f k e g none a = clash (cc)
 answered P f k e g (some x) a = g x a
 
 -- a call by value that hands back the node that host i holds
 same-node : (w : Cluster) (i k : ℕ) (f : Node → HandedBack) → ((n : Node) → f n .number ≡ k → f n .node ≡ n)
     → (o : Option Node) → w .nodes i ≡ o → onNode w i f o .answer ≡ some k → Unchanged w (onNode w i f o .after)
-same-node w i k f same none e a = absurd (let z : _≡_ {A = ℕ} 0 1 = cc in omega arith)
+same-node w i k f same none e a = clash (cc)
 same-node w i k f same (some n) e a = record { nodes = at; images = λ j. refl; given = refl }
   where
     at : (j : ℕ) → cond (eqb j i) (some (f n .node)) (w .nodes j) ≡ w .nodes j
@@ -186,16 +198,20 @@ same-image w i k x h m e = rw (leaves-to (x .number) (rw e (no-image k h m))) (s
 same-held : (w : Cluster) (i k : ℕ) (g : List ℕ → Returned) → Refusal k → ¬ AddsMiss k
     → (o : Option (List ℕ)) → onHeldImage w i g o .answer ≡ some k → Unchanged w (onHeldImage w i g o .after)
 same-held w i k g h m =
-    answered (λ o. Unchanged w (onHeldImage w i g o .after)) (onHeldImage w i g) k refl (λ b a. same-image w i k (g b) h m (Option·some-injective (g b .number) k a))
+    answered (λ o. Unchanged w (onHeldImage w i g o .after)) (onHeldImage w i g) k refl
+    (λ b a. same-image w i k (g b) h m (Option·some-injective (g b .number) k a))
 
 -- a checkpoint that is not given
-same-given : (w : Cluster) (k j : ℕ) (slice : List ℕ) → k ≢ 0 → keepCheckpoint w j slice .answer ≡ some k → Unchanged w (keepCheckpoint w j slice .after)
+same-given : (w : Cluster) (k j : ℕ) (slice : List ℕ) → k ≢ 0 → keepCheckpoint w j slice .answer ≡ some k → Unchanged w
+    (keepCheckpoint w j slice .after)
 same-given w k j slice h a = rw (ne-eqb j 0 (rw (Option·some-injective j k a) h)) (still w)
 
 pub refusals-change-nothing : RefusalsChangeNothing
 unfolding run
-refusals-change-nothing w (start (byValue i) cb sb out) k a h m = rw (ne-eqb (started cb sb .number) 0 (rw (Option·some-injective (started cb sb .number) k a) (h .0))) (still w)
-refusals-change-nothing w (start (throughC i) cb sb out) k a h m = same-image w i k (nodeStart cb sb out) h m (Option·some-injective (nodeStart cb sb out .number) k a)
+refusals-change-nothing w (start (byValue i) cb sb out) k a h m = rw
+    (ne-eqb (started cb sb .number) 0 (rw (Option·some-injective (started cb sb .number) k a) (h .0))) (still w)
+refusals-change-nothing w (start (throughC i) cb sb out) k a h m = same-image w i k (nodeStart cb sb out) h m
+    (Option·some-injective (nodeStart cb sb out .number) k a)
 refusals-change-nothing w (deliver (byValue i) ab sb out) k a h m =
     same-node w i k (delivered ab sb) (λ n e. deliver-same n ab sb _ (deliver-comes-to n ab sb) (subst Refusal (sym e) h)) (w .nodes i) refl a
 refusals-change-nothing w (deliver (throughC i) ab sb out) k a h m = same-held w i k _ h m (w .images i) a
@@ -222,7 +238,7 @@ put-there i x f j n = rw (ne-eqb j i n)
 -- a query by value
 missed-node : (w : Cluster) (i k : ℕ) (qb : List ℕ) → AddsMiss k → (o : Option Node) → w .nodes i ≡ o → onNode w i (asked qb) o .answer ≡ some k
     → MissedByValue w (onNode w i (asked qb) o .after) i
-missed-node w i k qb m none e a = absurd (let z : _≡_ {A = ℕ} 0 1 = cc in omega arith)
+missed-node w i k qb m none e a = clash (cc)
 missed-node w i k qb m (some n) e a =
     let q = Option·some-injective (asked qb n .number) k a in
     let more : asked qb n .node ≡ oneMissMore n = query-misses n qb _ (query-comes-to n qb) (subst AddsMiss (sym q) m) in
@@ -239,7 +255,7 @@ missed-node w i k qb m (some n) e a =
 missed-image : (w : Cluster) (i k : ℕ) (qb out : List ℕ) → AddsMiss k → (o : Option (List ℕ)) → w .images i ≡ o
     → onHeldImage w i (λ b. nodeQuery b qb out) o .answer ≡ some k → MissedThroughC w (onHeldImage w i (λ b. nodeQuery b qb out) o .after) i
 unfolding nodeQuery
-missed-image w i k qb out m none e a = absurd (let z : _≡_ {A = ℕ} 0 1 = cc in omega arith)
+missed-image w i k qb out m none e a = clash (cc)
 missed-image w i k qb out m (some b) e a =
     let x = onImage (asked qb) b out in
     let q : x .number ≡ k = Option·some-injective (x .number) k a in
@@ -261,12 +277,14 @@ missed-image w i k qb out m (some b) e a =
 -- a checkpoint is given, or refused by 1 or 22
 checkpoint-adds-none : (n : Node) (out : List ℕ) → ¬ AddsMiss (checkpointNumber (checkpointOf n out .answer))
 unfolding checkpointOf
-checkpoint-adds-none n out = cond-cases (λ (x : CheckpointAnswer). ¬ AddsMiss (checkpointNumber x)) (leb checkpointSize (length out)) (λ e m. omega arith) (λ e m. omega arith)
+checkpoint-adds-none n out = cond-cases (λ (x : CheckpointAnswer). ¬ AddsMiss (checkpointNumber x)) (leb checkpointSize (length out))
+    (λ e m. omega arith) (λ e m. omega arith)
 
 image-checkpoint-adds-none : (image out : List ℕ) → ¬ AddsMiss (nodeCheckpoint image out .number)
 unfolding nodeCheckpoint
 image-checkpoint-adds-none image out =
-    cond-cases (λ (x : Returned). ¬ AddsMiss (x .number)) (readImage image .ok) (λ e. checkpoint-adds-none (readImage image .node) out) (λ e m. omega arith)
+    cond-cases (λ (x : Returned). ¬ AddsMiss (x .number)) (readImage image .ok) (λ e. checkpoint-adds-none (readImage image .node) out)
+    (λ e m. omega arith)
 
 -- a call with the number j was not answered k
 not-answered : (j k : ℕ) → ¬ AddsMiss j → some j ≡ some k → ¬ AddsMiss k
@@ -277,9 +295,11 @@ unfolding run nodeStart nodeDeliver
 misses-add-one w (start (byValue i) cb sb out) k a m = not-answered _ k (start-adds-none cb sb _ (start-comes-to cb sb)) a m
 misses-add-one w (start (throughC i) cb sb out) k a m = not-answered _ k (image-start-adds-none cb sb out) a m
 misses-add-one w (deliver (byValue i) ab sb out) k a m =
-    answered (λ o. ⊥) (onNode w i (delivered ab sb)) k refl (λ n b. not-answered _ k (deliver-adds-none n ab sb _ (deliver-comes-to n ab sb)) b m) (w .nodes i) a
+    answered (λ o. ⊥) (onNode w i (delivered ab sb)) k refl (λ n b. not-answered _ k (deliver-adds-none n ab sb _ (deliver-comes-to n ab sb)) b m)
+    (w .nodes i) a
 misses-add-one w (deliver (throughC i) ab sb out) k a m =
-    answered (λ o. ⊥) (onHeldImage w i (λ b. onImage (delivered ab sb) b out)) k refl (λ b e. not-answered _ k (image-deliver-adds-none b ab sb out) e m) (w .images i) a
+    answered (λ o. ⊥) (onHeldImage w i (λ b. onImage (delivered ab sb) b out)) k refl
+    (λ b e. not-answered _ k (image-deliver-adds-none b ab sb out) e m) (w .images i) a
 misses-add-one w (query (byValue i) qb out) k a m = missed-node w i k qb m (w .nodes i) refl a
 misses-add-one w (query (throughC i) qb out) k a m = missed-image w i k qb out m (w .images i) refl a
 misses-add-one w (checkpoint (byValue i) out) k a m =

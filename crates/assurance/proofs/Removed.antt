@@ -9,11 +9,12 @@ use Rattle.state.specs.declared.Day.{Day}
 use Rattle.state.specs.declared.Seat.{Seat}
 use Rattle.state.specs.declared.State.{State}
 use Rattle.state.specs.Seats.{freeSeat, retired, seatAt, isActive}
+use Rattle.state.specs.Time.{daysSince}
 use Rattle.records.specs.declared.Announcement.{Announcement}
 use Rattle.records.specs.declared.Action.the-variants.{Remove}
 use Rattle.records.specs.declared.Query.{Query}
 use Rattle.checkpoint.specs.Checkpoint.{readCheckpoint}
-use Rattle.actions.specs.Perform.{perform, act, restand, useProposal}
+use Rattle.actions.specs.Perform.{perform, act, withStanding, useProposal, effect}
 use Rattle.node.specs.declared.Node.{Node}
 use Rattle.agreement.specs.History.{History, Moment}
 use Rattle.agreement.specs.Claims.{Opened, Park, EquivocationBound}
@@ -27,7 +28,7 @@ use Rattle.assurance.proofs.Lives.{set-there, rises}
 
 -- a remove retires the seat
 remove-retires : (s : State) (d : Day) (i : ℕ) → isActive (seatAt i (s .seats)) ≡ true → seatAt i (act s d (Remove i) .seats) .standing ≡ retired
-unfolding act restand useProposal
+unfolding act withStanding useProposal effect
 remove-retires s d i e = ap (λ (x : Seat). x .standing) (set-there (s .seats) i _ freeSeat (λ z. false≢true (rw z at e)))
 
 module _ (first : List ℕ) (calls : History) (park : Park first calls) (bound : EquivocationBound calls) where
@@ -36,7 +37,8 @@ module _ (first : List ℕ) (calls : History) (park : Park first calls) (bound :
 
   -- a node of a cycle up to that of the remove is silent on such a day, and a later one is halted
   late : (s : State) (a : Announcement) (i : ℕ) → Reach s → Step calls s a → a .action ≡ Remove i
-      → (u : Moment) (n : Node) (q : Query) → Reach (n .state) → Opened u n q → n .own .seat ≡ i → ¬ (a .day .0 + n .state .silence < q .day .0)
+      → (u : Moment) (n : Node) (q : Query) → Reach (n .state) → Opened u n q → n .own .seat ≡ i → ¬
+      (n .state .minima .silence < daysSince (q .day) (a .day))
   unfolding perform
   late s a i S d removes u n q N o own above = pick (decLe (n .state .cycle .0) (s .cycle .0))
     where
@@ -50,7 +52,7 @@ module _ (first : List ℕ) (calls : History) (park : Park first calls) (bound :
       pick (no h) =
           let R = through (readCheckpoint first .state) (Step calls) (one first calls park bound) (advances first calls park) a S d N (omega arith) in
           let f = rw removes at (step-found first calls park s a d) in
-          let there : seatAt i (perform s a .seats) .standing ≡ retired = rw removes (remove-retires s (a .day) i (f .0)) in
+          let there : seatAt i (perform s a .seats) .standing ≡ retired = rw removes (remove-retires s (a .day) i f) in
           let now = rises first calls park i R .stays-retired there in
           opens u n q o .running (ap (λ (j : ℕ). seatAt j (n .state .seats) .standing) own ∙ now)
 

@@ -18,14 +18,15 @@ use Rattle.records.specs.Sheet.{rowsOf, counts, countedSeats, countedOnBoth}
 use Rattle.records.proofs.Counts.{counts-once}
 use Rattle.checkpoint.specs.Checkpoint.{checkpointBytes, isCheckpoint}
 use Rattle.node.specs.declared.Node.{Node}
-use Rattle.node.specs.Own.{isSameBytes}
+use Rattle.verdicts.specs.Own.{isSameBytes}
 use Rattle.node.proofs.Deliver.{same-bytes}
-use Rattle.agreement.specs.History.{Host, byValue, throughC, Call, start, deliver, query, checkpoint, History, Cluster, empty, nodeAt, Moment, momentsFrom, moments, answer, after}
+use Rattle.agreement.specs.History.{Host, byValue, throughC, Call, start, deliver, query, checkpoint, History, Cluster, empty, nodeAt, Moment}
+use Rattle.agreement.specs.History.{momentsFrom, moments, answer, after}
 use Rattle.agreement.specs.Claims.{_∈_, Agreement, runAll}
 use Rattle.agreement.proofs.NotIdle.{calls-at-hosts, Each, isBytes, holdsBytes, FromFirst, park}
-use Rattle.assurance.specs.Sheets.{sheetOf}
+use Rattle.records.specs.Sheet.{sheetOf}
 use Rattle.assurance.specs.Tight.{firstState, first, rowsBelow, fullSheet, divided, LooserBound, BeyondByOne, BoundIsTight}
-use Rattle.assurance.proofs.Lists.{all-in, fewer}
+use Rattle.lists.proofs.Members.{all-in, fewer}
 
 -- ---- the starts are from the first checkpoint
 
@@ -48,7 +49,7 @@ done (some k ∷ xs) e = let t = simp and-eq-true-iff at e in rw (eqb-true k 0 (
 
 abbrev hasFew : Option Node → Bool
 hasFew none = true
-hasFew (some n) = leb (presentSeats (n .state .seats)) (2 * n .state .margin + 1)
+hasFew (some n) = leb (presentSeats (n .state .seats)) (2 * n .state .minima .margin + 1)
 
 abbrev findsFew : Cluster → Call → Bool
 findsFew w (start h cb rb out) = true
@@ -67,9 +68,11 @@ looser-bound calls f t u i j s ab bb a b asb bsb p q n =
 abbrev pub differ : Option Node → Option Node → Bool
 differ none y = false
 differ (some n) none = false
-differ (some n) (some k) = eqb (n .state .cycle .0) (k .state .cycle .0) && not (isSameBytes (checkpointBytes (n .state)) (checkpointBytes (k .state)))
+differ (some n) (some k) = eqb (n .state .cycle .0) (k .state .cycle .0) && not
+    (isSameBytes (checkpointBytes (n .state)) (checkpointBytes (k .state)))
 
-pub split : (calls : History) (t u : Moment) → t ∈ calls → u ∈ calls → (g h : Host) → differ (nodeAt (after t) g) (nodeAt (after u) h) ≡ true → ¬ Agreement calls
+pub split : (calls : History) (t u : Moment) → t ∈ calls → u ∈ calls → (g h : Host) → differ (nodeAt (after t) g) (nodeAt (after u) h) ≡ true
+    → ¬ Agreement calls
 split calls t u i j g h d A = by (nodeAt (after t) g) refl (nodeAt (after u) h) refl d
   where
     by : (x : Option Node) → nodeAt (after t) g ≡ x → (y : Option Node) → nodeAt (after u) h ≡ y → differ x y ≡ true → ⊥
@@ -107,7 +110,8 @@ tested m e =
       performed = done (map answer (moments (divided m))) (t .1 .1 .1 .0);
       double-voters = eqb-true _ _ (t .1 .1 .1 .1 .0);
       looser-bound = looser-bound (divided m) (all-of _ (moments (divided m)) (t .1 .1 .1 .1 .1 .0));
-      splits = let last = List·Memᴰ·tail (List·Memᴰ·tail (List·Memᴰ·tail (List·Memᴰ·head refl))) in split (divided m) _ _ last last (byValue 0) (throughC 1) (t .1 .1 .1 .1 .1 .1);
+      splits = let last = List·Memᴰ·tail (List·Memᴰ·tail (List·Memᴰ·tail (List·Memᴰ·head refl))) in split (divided m) _ _ last last (byValue 0)
+          (throughC 1) (t .1 .1 .1 .1 .1 .1);
     }
 
 -- the test passes up to n

@@ -9,11 +9,11 @@ use Rattle.lists.proofs.Every as Every
 use Rattle.checkpoint.specs.Checkpoint.{isCheckpoint}
 use Rattle.node.specs.declared.Node.{Node}
 use Rattle.node.specs.Start.{startOf}
-use Rattle.marked_examples.specs.Records.{grantTo}
+use Rattle.examples.specs.Records.{grantTo}
 use Rattle.agreement.specs.History.{Host, byValue, History, empty, nodeAt, Moment, answer}
 use Rattle.agreement.specs.Claims.{_∈_, runAll}
 use Rattle.agreement.proofs.NotIdle.{calls-at-hosts, isBytes, holdsBytes, park}
-use Rattle.assurance.specs.Sheets.{sheetOf}
+use Rattle.records.specs.Sheet.{sheetOf}
 use Rattle.assurance.specs.Tight.{first, startSeat, rowsBelow}
 use Rattle.assurance.specs.Earned.{VoteOf, startAt, asked, restarted, twoHosts, RestartSplits, TwoHostsSplit}
 use Rattle.assurance.proofs.Tight.{split}
@@ -35,7 +35,8 @@ asking : History → Host → ℕ → Moment
 asking earlier h end = record { before = runAll empty earlier; call = asked h end }
 
 -- it is answered voted, by that node
-vote : (calls earlier : History) (h : Host) (end : ℕ) → asking earlier h end ∈ calls → nodeAt (runAll empty earlier) h ≡ some voter → answer (asking earlier h end) ≡ some 128
+vote : (calls earlier : History) (h : Host) (end : ℕ) → asking earlier h end ∈ calls → nodeAt (runAll empty earlier) h ≡ some voter → answer
+    (asking earlier h end) ≡ some 128
     → (t : Moment) × VoteOf calls 0 1 1 (grantTo end) t
 unfolding calls-at-hosts asking voter
 vote calls earlier h end m held answered = (
@@ -68,7 +69,8 @@ restart-splits =
       answered = refl;
       rows = refl;
       one = vote restarted (startAt h ∷ []) h 120 (List·Memᴰ·tail (List·Memᴰ·head refl)) refl refl;
-      other = vote restarted (startAt h ∷ asked h 120 ∷ startAt h ∷ []) h 121 (List·Memᴰ·tail (List·Memᴰ·tail (List·Memᴰ·tail (List·Memᴰ·head refl)))) refl refl;
+      other = vote restarted (startAt h ∷ asked h 120 ∷ startAt h ∷ []) h 121
+          (List·Memᴰ·tail (List·Memᴰ·tail (List·Memᴰ·tail (List·Memᴰ·head refl)))) refl refl;
       splits = split restarted _ _ fifth seventh h h refl;
     }
 
@@ -90,6 +92,7 @@ two-hosts-split =
       answered = refl;
       rows = refl;
       one = vote twoHosts (startAt g ∷ startAt h ∷ []) g 120 third refl refl;
-      other = vote twoHosts (startAt g ∷ startAt h ∷ asked g 120 ∷ []) h 121 (List·Memᴰ·tail (List·Memᴰ·tail (List·Memᴰ·tail (List·Memᴰ·head refl)))) refl refl;
+      other = vote twoHosts (startAt g ∷ startAt h ∷ asked g 120 ∷ []) h 121
+          (List·Memᴰ·tail (List·Memᴰ·tail (List·Memᴰ·tail (List·Memᴰ·head refl)))) refl refl;
       splits = split twoHosts _ _ sixth sixth g h refl;
     }

@@ -16,7 +16,7 @@ use Rattle.records.specs.Announcement.{readAnnouncement}
 use Rattle.records.specs.Sheet.{isSheet}
 use Rattle.actions.specs.Perform.{perform}
 use Rattle.actions.specs.Claims.{Advances}
-use Rattle.actions.proofs.Perform.{always-advances}
+use Rattle.actions.proofs.Performed.{always-advances}
 use Rattle.node.specs.declared.Node.{Node}
 use Rattle.node.specs.declared.DeliverReply.{DeliverReply}
 use Rattle.node.specs.declared.QueryReply.{QueryReply}
@@ -24,10 +24,11 @@ use Rattle.node.specs.declared.StartReply.{StartReply}
 use Rattle.node.specs.declared.DeliverAnswer.{DeliverAnswer}
 use Rattle.node.specs.declared.DeliverAnswer.the-variants.{Done, Voted, Refused}
 use Rattle.node.specs.Answers.{startNumber, deliverNumber}
-use Rattle.node.specs.Own.{isSameBytes, votedOtherwise, canVote}
-use Rattle.actions.specs.Rules.{refuseIf, _orElse_}
+use Rattle.verdicts.specs.Own.{isSameBytes, votedOtherwise, canVote}
+use Rattle.refusals.specs.Refusals.{refuseIf, _orElse_}
 use Rattle.node.specs.Deliver as Deliver
-use Rattle.node.specs.Deliver.{deliverRefusal, showsQuorum, voteRefusal, deliverRead, deliverRecords, deliverOf}
+use Rattle.verdicts.specs.Verdicts.{deliverRefusal, showsQuorum, voteRefusal}
+use Rattle.node.specs.Deliver.{deliverRead, deliverRecords, deliverOf}
 use Rattle.node.specs.Query.{queryOf}
 use Rattle.node.specs.Start.{startOf}
 use Rattle.node.specs.Claims as Node
@@ -36,20 +37,23 @@ use Rattle.node.proofs.Deliver.{deliver-comes-to}
 use Rattle.node.proofs.Query.{query-comes-to}
 use Rattle.node.proofs.Start.{start-comes-to}
 use Rattle.node.proofs.Numbers.{deliver-numbers, start-numbers}
-use Rattle.node_c.specs.Image.{imageBytes}
-use Rattle.node_c.specs.Claims.{WellFormedNode}
+use Rattle.image.specs.Image.{imageBytes}
+use Rattle.node.specs.WellFormed.{WellFormedNode}
 use Rattle.node_c.specs.Calls.{HandedBack, started, delivered, asked}
-use Rattle.node_c.proofs.Image.{node-read-back}
-use Rattle.node_c.proofs.WellFormed.{start-makes-well-formed, deliver-keeps-well-formed, query-keeps-well-formed}
-use Rattle.agreement.specs.History.{Host, byValue, throughC, Call, start, deliver, query, checkpoint, History, Cluster, empty, Outcome, imageNode, nodeAt, answers, run, Moment, momentsFrom, moments, answer, after}
+use Rattle.image.proofs.RoundTrips.{node-read-back}
+use Rattle.node.proofs.WellFormedNodes.{start-makes-well-formed, deliver-keeps-well-formed, query-keeps-well-formed}
+use Rattle.agreement.specs.History.{Host, byValue, throughC, Call, start, deliver, query, checkpoint, History, Cluster, empty, Outcome, imageNode}
+use Rattle.agreement.specs.History.{nodeAt, answers, run, Moment, momentsFrom, moments, answer, after}
 use Rattle.agreement.specs.Claims.{_∈_, HoldsBytes, Park}
-use Rattle.agreement.proofs.Calls.{leave, onHost, run-deliver, run-query, Left, ran, voted-left, startBy, run-start, start-refused, start-accepted, Gave, run-checkpoint}
+use Rattle.agreement.proofs.Calls.{leave, onHost, run-deliver, run-query, Left, ran, voted-left, startBy, run-start, start-refused, start-accepted}
+use Rattle.agreement.proofs.Calls.{Gave, run-checkpoint}
 use Rattle.agreement.proofs.Steps.{always}
 use Rattle.assurance.specs.Earned.{VotedAt, Up, here, past, Between, from, later, NoStart}
 
 -- ---- what a host holds after another node was left at some host
 
-leave-cases : (w : Cluster) (h g : Host) (n x : Node) → WellFormedNode n → nodeAt (leave w h n) g ≡ some x → ((g ≡ h) × (x ≡ n)) ⊎ (nodeAt w g ≡ some x)
+leave-cases : (w : Cluster) (h g : Host) (n x : Node) → WellFormedNode n → nodeAt (leave w h n) g ≡ some x → ((g ≡ h) × (x ≡ n)) ⊎
+    (nodeAt w g ≡ some x)
 leave-cases w (byValue i) (byValue j) n x f e = at (eqb j i) refl e
   where
     at : (b : Bool) → eqb j i ≡ b → cond b (some n) (w .nodes j) ≡ some x → ((byValue j ≡ byValue i) × (x ≡ n)) ⊎ (w .nodes j ≡ some x)
@@ -59,7 +63,8 @@ leave-cases w (byValue i) (throughC j) n x f e = inr e
 leave-cases w (throughC i) (byValue j) n x f e = inr e
 leave-cases w (throughC i) (throughC j) n x f e = at (eqb j i) refl e
   where
-    at : (b : Bool) → eqb j i ≡ b → imageNode (cond b (some (imageBytes n)) (w .images j)) ≡ some x → ((throughC j ≡ throughC i) × (x ≡ n)) ⊎ (imageNode (w .images j) ≡ some x)
+    at : (b : Bool) → eqb j i ≡ b → imageNode (cond b (some (imageBytes n)) (w .images j)) ≡ some x → ((throughC j ≡ throughC i) × (x ≡ n)) ⊎
+        (imageNode (w .images j) ≡ some x)
     at true s e =
         let back : imageNode (some (imageBytes n)) ≡ some n = rw (node-read-back n f) in
         inl (ap throughC (eqb-true j i s), sym (Option·some-injective n x (sym back ∙ e)))
@@ -96,11 +101,17 @@ module _ (first : List ℕ) (calls : History) (park : Park first calls) (g : Hos
       at (inr l) = pick (leave-cases w h g (f (l .node) .node) x (fine (l .node) (l .held)) (ap (λ (z : Cluster). nodeAt z g) (sym (l .after)) ∙ e))
         where
           pick : ((g ≡ h) × (x ≡ f (l .node) .node)) ⊎ (nodeAt w g ≡ some x) → Held w g x
-          pick (inl s) = record { node = l .node; held = ap (nodeAt w) (s .0) ∙ l .held; becomes = subst (Becomes (l .node)) (sym (s .1)) (b (l .node)) }
+          pick (inl s) = record {
+            node = l .node;
+            held = ap (nodeAt w) (s .0) ∙ l .held;
+            becomes = subst (Becomes (l .node)) (sym (s .1))
+                (b (l .node));
+          }
           pick (inr k) = record { node = x; held = k; becomes = stays refl }
 
   module _ (w : Cluster) (fine : (h : Host) (n : Node) → nodeAt w h ≡ some n → WellFormedNode n) where
-    on-start : (h : Host) (cb sb out : List ℕ) → record { before = w; call = start h cb sb out } ∈ calls → NoStart g (record { before = w; call = start h cb sb out })
+    on-start : (h : Host) (cb sb out : List ℕ) → record { before = w; call = start h cb sb out } ∈ calls → NoStart g
+        (record { before = w; call = start h cb sb out })
         → (x : Node) → nodeAt (run w (start h cb sb out) .after) g ≡ some x → Held w g x
     on-start h cb sb out m free x e = by (start-comes-to cb sb)
       where
@@ -113,7 +124,7 @@ module _ (first : List ℕ) (calls : History) (park : Park first calls) (g : Hos
         by : Starting cb sb (startOf cb sb) → Held w g x
         by (Node.refuses k y q) =
             let range = start-numbers y in
-            let number : r .number ≡ k = ap startNumber q in
+            let number : r .number ≡ k = ap (λ (v : StartReply). startNumber (v .answer)) q in
             unmoved w _ g x (start-refused w h r out (omega arith) (omega arith)) left
         by (Node.starts z rx rc active above q) = pick (start-accepted w h r out (ap (λ (v : StartReply). startNumber (v .answer)) q) f)
           where
@@ -125,7 +136,9 @@ module _ (first : List ℕ) (calls : History) (park : Park first calls) (g : Hos
             pick (inr k) = choose (leave-cases w h g (r .node) x f (ap (λ (o : Outcome). nodeAt (o .after) g) (sym k) ∙ left))
               where
                 choose : ((g ≡ h) × (x ≡ r .node)) ⊎ (nodeAt w g ≡ some x) → Held w g x
-                choose (inl s) = absurd (free cb sb out (ap (λ (i : Host). start i cb sb out) (sym (s .0))) (ap (λ (o : Outcome). o .answer) (run-start w h cb sb out ∙ k)))
+                choose (inl s) = absurd
+                    (free cb sb out (ap (λ (i : Host). start i cb sb out) (sym (s .0)))
+                    (ap (λ (o : Outcome). o .answer) (run-start w h cb sb out ∙ k)))
                 choose (inr l) = record { node = x; held = l; becomes = stays refl }
 
     on-call : (c : Call) → record { before = w; call = c } ∈ calls → NoStart g (record { before = w; call = c })
@@ -155,7 +168,7 @@ isVoted Done = false
 isVoted Voted = true
 isVoted (Refused k) = false
 
-no-vote : (n : Node) (ab sb : List ℕ) → votedOtherwise n ab ≡ true → isVoted (deliverOf n ab sb .answer) ≡ false
+no-vote : (n : Node) (ab sb : List ℕ) → votedOtherwise (n .own) ab ≡ true → isVoted (deliverOf n ab sb .answer) ≡ false
 unfolding deliverOf deliverRead voteRefusal
 no-vote n ab sb o = by (readAnnouncement ab)
   where
@@ -163,12 +176,13 @@ no-vote n ab sb o = by (readAnnouncement ab)
     by Malformed = refl
     by (Read a) =
         cond-cases (λ (r : DeliverReply). isVoted (r .answer) ≡ false) (isSheet sb)
-        (λ _. cond-cases (λ (r : DeliverReply). isVoted (r .answer) ≡ false) (eqb (deliverRefusal n a sb) 0)
-        (λ _. cond-cases (λ (r : DeliverReply). isVoted (r .answer) ≡ false) (showsQuorum (n .state) sb) (λ _. refl) (λ _. at (canVote n)))
+        (λ _. cond-cases (λ (r : DeliverReply). isVoted (r .answer) ≡ false) (eqb (deliverRefusal (n .state) (n .own) a sb) 0)
+        (λ _. cond-cases (λ (r : DeliverReply). isVoted (r .answer) ≡ false) (showsQuorum (n .state) sb) (λ _. refl)
+        (λ _. at (canVote (n .state) (n .own))))
         (λ _. refl))
         (λ _. refl)
       where
-        at : (b : Bool) → isVoted (Deliver.withoutQuorum n ab (refuseIf (not b) 15 orElse refuseIf (votedOtherwise n ab) 16) .answer) ≡ false
+        at : (b : Bool) → isVoted (Deliver.withoutQuorum n ab (refuseIf (not b) 15 orElse refuseIf (votedOtherwise (n .own) ab) 16) .answer) ≡ false
         at true = rw o
         at false = refl
 
@@ -186,7 +200,7 @@ same-vote n ab sb e v = at (isSameBytes (n .own .vote) ab) refl
     at : (b : Bool) → isSameBytes (n .own .vote) ab ≡ b → n .own .vote ≡ ab
     at true s = bytes-same (n .own .vote) ab s
     at false s =
-        let o : votedOtherwise n ab ≡ true = rw (v, s) in
+        let o : votedOtherwise (n .own) ab ≡ true = rw (v, s) in
         absurd (false≢true (sym (no-vote n ab sb o) ∙ ap isVoted e))
 
 -- The node is past cycle c, or in it and has voted for ab.
@@ -194,7 +208,8 @@ abbrev pub Marked : ℕ → List ℕ → Node → Type 0
 Marked c ab x = (c < x .state .cycle .0) ⊎ ((x .state .cycle .0 ≡ c) × (x .own .voted ≡ true) × (x .own .vote ≡ ab))
 
 module _ (c : ℕ) (ab : List ℕ) where
-  by-delivery : (y : Node) (bb sb : List ℕ) (r : DeliverReply) → WellFormedNode y → Marked c ab y → r ≡ deliverOf y bb sb → Delivery y bb sb r → Marked c ab (r .node)
+  by-delivery : (y : Node) (bb sb : List ℕ) (r : DeliverReply) → WellFormedNode y → Marked c ab y → r ≡ deliverOf y bb sb → Delivery y bb sb r
+      → Marked c ab (r .node)
   by-delivery y bb sb r f m q (Node.refuses k z e) = subst (λ (x : DeliverReply). Marked c ab (x .node)) (sym e) m
   by-delivery y bb sb r f m q (Node.votes a acc few may e) = subst (λ (x : DeliverReply). Marked c ab (x .node)) (sym e) (at m)
     where
@@ -230,15 +245,18 @@ module _ (c : ℕ) (ab : List ℕ) where
 
     kept-call : (t : Moment) → t ∈ calls → NoStart g t → Kept (t .before) → Kept (after t)
     kept-call t m free k x e =
-        let fine : (h : Host) (n : Node) → nodeAt (t .before) h ≡ some n → WellFormedNode n = λ h n z. always first calls park t m .0 .held h n z .well-formed in
+        let fine : (h : Host) (n : Node) → nodeAt (t .before) h ≡ some n → WellFormedNode n = λ h n z.
+        always first calls park t m .0 .held h n z .well-formed in
         let l = on-call first calls park g (t .before) fine (t .call) m free x e in
         becomes-marked (l .node) x (fine g (l .node) (l .held)) (k (l .node) (l .held)) (l .becomes)
 
-    up : (w : Cluster) (cs : History) (u : Moment) → ((t : Moment) → List·Memᴰ t (momentsFrom w cs) → t ∈ calls) → Up (NoStart g) u (momentsFrom w cs) → Kept w → Kept (u .before)
+    up : (w : Cluster) (cs : History) (u : Moment) → ((t : Moment) → List·Memᴰ t (momentsFrom w cs) → t ∈ calls) → Up (NoStart g) u (momentsFrom w cs)
+        → Kept w → Kept (u .before)
     unfolding momentsFrom
     up w (d ∷ cs) u within here k = k
     up w (d ∷ cs) u within (past free r) k =
-        up (run w d .after) cs u (λ t m. within t (List·Memᴰ·tail m)) r (kept-call (record { before = w; call = d }) (within _ (List·Memᴰ·head refl)) free k)
+        up (run w d .after) cs u (λ t m. within t (List·Memᴰ·tail m)) r
+        (kept-call (record { before = w; call = d }) (within _ (List·Memᴰ·head refl)) free k)
 
     between : (w : Cluster) (cs : History) (t u : Moment) → ((s : Moment) → List·Memᴰ s (momentsFrom w cs) → s ∈ calls)
         → Between (NoStart g) t u (momentsFrom w cs) → Kept (after t) → Kept (u .before)
@@ -275,7 +293,8 @@ module _ (first : List ℕ) (calls : History) (park : Park first calls) where
       let sb = v .sheet in
       let is : run w (t .call) ≡ onHost w h (delivered ab sb) (v .out) = ap (run w) (v .called) ∙ run-deliver w h ab sb (v .out) in
       let bytes = subst HoldsBytes (v .called) (park .bytes t m) in
-      let f : WellFormedNode (deliverOf n ab sb .node) = deliver-keeps-well-formed n ab sb (bytes .0) (always first calls park t m .0 .held h n (v .held) .well-formed) in
+      let f : WellFormedNode (deliverOf n ab sb .node) = deliver-keeps-well-formed n ab sb (bytes .0)
+      (always first calls park t m .0 .held h n (v .held) .well-formed) in
       let l = voted-left w h (delivered ab sb) (v .out) n f (v .held) (ap (λ (x : Outcome). x .answer) (sym is) ∙ v .answered) in
       let d = voted-node n ab sb (deliverOf n ab sb) (deliver-comes-to n ab sb) (l .0) in
       record {
@@ -311,4 +330,5 @@ module _ (first : List ℕ) (calls : History) (park : Park first calls) where
 
 -- two votes at one moment
 pub same-call : (t u : Moment) {g h : Host} {n k : Node} {ab bb : List ℕ} → t ≡ u → VotedAt t g n ab → VotedAt u h k bb → ab ≡ bb
-same-call t u {g} {h} {ab = ab} {bb = bb} e v w = let q : deliver g ab (v .sheet) (v .out) ≡ deliver h bb (w .sheet) (w .out) = sym (v .called) ∙ ap (λ (m : Moment). m .call) e ∙ w .called in cc
+same-call t u {g} {h} {ab = ab} {bb = bb} e v w = let q : deliver g ab (v .sheet) (v .out) ≡ deliver h bb (w .sheet) (w .out) = sym (v .called) ∙ ap
+    (λ (m : Moment). m .call) e ∙ w .called in cc

@@ -11,11 +11,11 @@ use Rattle.state.specs.Seats.{seatAt}
 use Rattle.records.specs.declared.Announcement.{Announcement}
 use Rattle.records.specs.Sheet.{rowsOf, counts}
 use Rattle.node.specs.declared.Node.{Node}
-use Rattle.marked_examples.specs.Records.{grantTo}
+use Rattle.examples.specs.Records.{grantTo}
 use Rattle.agreement.specs.History.{Host, byValue, Call, start, deliver, History, Moment, moments, nodeAt, answer}
 use Rattle.agreement.specs.Claims.{_∈_, Performed, Park, EquivocationBound, Agreement, Ended}
 use Rattle.agreement.specs.Chain.{Step}
-use Rattle.assurance.specs.Sheets.{sheetOf}
+use Rattle.records.specs.Sheet.{sheetOf}
 use Rattle.assurance.specs.Tight.{first, startSeat, fullSheet}
 
 -- At moment t the node n, at this host, answers voted to the announcement ab.
@@ -51,11 +51,13 @@ abbrev pub NoStart : Host → Moment → Type 0
 NoStart h m = (cb sb out : List ℕ) → m .call ≡ start h cb sb out → ¬ (answer m ≡ some 0)
 
 -- The second vote is given at the host of the first, later in the list, and that host is not started between them.
-pub record GoesOn {seat life cycle : ℕ} {ab bb : List ℕ} (calls : History) (t u : Moment) (v : VoteOf calls seat life cycle ab t) (w : VoteOf calls seat life cycle bb u) : Type 0 where
+pub record GoesOn {seat life cycle : ℕ} {ab bb : List ℕ} (calls : History) (t u : Moment) (v : VoteOf calls seat life cycle ab t)
+    (w : VoteOf calls seat life cycle bb u) : Type 0 where
   pub host : w .host ≡ v .host
   pub between : Between (NoStart (v .host)) t u (moments calls)
 
--- Any two votes of this seat and life in this cycle are one vote, or one goes on from the other: they are not given at two hosts, nor on either side of a start.
+-- Any two votes of this seat and life in this cycle are one vote, or one goes on from the other: they are not given at two hosts, nor on either side
+-- of a start.
 abbrev pub Steady : History → ℕ → ℕ → ℕ → Type 0
 Steady calls seat life cycle = (ab bb : List ℕ) (t u : Moment) (v : VoteOf calls seat life cycle ab t) (w : VoteOf calls seat life cycle bb u)
     → (t ≡ u) ⊎ (GoesOn calls t u v w ⊎ GoesOn calls u t w v)
@@ -66,11 +68,12 @@ pub record HonestVote (calls : History) (seat life cycle : ℕ) (ab : List ℕ) 
   pub vote : VoteOf calls seat life cycle ab moment
   pub steady : Steady calls seat life cycle
 
--- But for a set of at most 2m seats, each seat that counts on the sheet of a delivery which is performed from the state s gave an honest vote under its listed
+-- But for a set of at most 2m seats, each seat that counts on the sheet of a delivery which is performed from the state s gave an honest vote under
+-- its listed
 -- life and in the cycle of s.
 pub record Honest (calls : History) (s : State) : Type 0 where
   pub faulty : List ℕ
-  pub few : length faulty ≤ 2 * s .margin
+  pub few : length faulty ≤ 2 * s .minima .margin
   pub others : (t : Moment) (ab : List ℕ) (a : Announcement) (sb : List ℕ) → t ∈ calls → Performed t s ab a sb
       → (i : ℕ) → counts (rowsOf sb) i (seatAt i (s .seats)) ≡ true
       → List·Memᴰ i faulty ⊎ HonestVote calls i (seatAt i (s .seats) .life) (s .cycle .0) ab

@@ -6,18 +6,17 @@ use Prim.Native.Nat.{ℕ, _^_, _/_, _%_, _≤_, _<_}
 use Rattle.state.specs.declared.State.{State}
 use Rattle.state.specs.Seats.{retired}
 use Rattle.state.specs.WellFormed.{isWellFormed}
-use Rattle.records.specs.declared.Row.{Row}
-use Rattle.records.specs.Sheet.{isSheet, level1, level2, rowsOf}
+use Rattle.records.specs.Sheet.{Row, isSheet, level1, level2, rowsOf}
 use Rattle.checkpoint.specs.Checkpoint.{readCheckpoint}
-use Rattle.actions.specs.Perform.{restand}
+use Rattle.actions.specs.Perform.{withStanding}
 use Rattle.node.specs.declared.Node.{Node}
 use Rattle.node.specs.declared.DeliverAnswer.the-variants.{Done, Refused}
-use Rattle.node.specs.Own.{isHalted, ownAfresh}
+use Rattle.verdicts.specs.Own.{isHalted, ownAfresh}
 use Rattle.node.specs.Deliver.{deliverOf}
 use Rattle.node.specs.Query.{queryOf}
-use Rattle.node.specs.Give.{checkpointOf, checkpointSlice}
-use Rattle.node_c.specs.Image.{isWellFormedOwn}
-use Rattle.marked_examples.specs.Records.{firstCheckpoint, grantTo, twoRows}
+use Rattle.node.specs.Checkpoint.{checkpointOf, checkpointSlice}
+use Rattle.node.specs.WellFormed.{isWellFormedOwn}
+use Rattle.examples.specs.Records.{firstCheckpoint, grantTo, twoRows}
 
 -- ---- the state alone
 
@@ -33,11 +32,12 @@ QueryKeepsState = (n : Node) (qb : List ℕ) → (queryOf n qb .node .state ≡ 
 -- the nodes share their state, and are both halted or both running
 pub record Alike (n k : Node) : Type 0 where
   pub state : n .state ≡ k .state
-  pub halted : isHalted n ≡ isHalted k
+  pub halted : isHalted (n .state) (n .own) ≡ isHalted (k .state) (k .own)
 
 -- Where one such node refuses a deliver by a number from 1 to 14, or performs it, so does the other, with the same number or the same state after it.
 pub record RulesOfState : Type 0 where
-  pub refuses : (n k : Node) → Alike n k → (ab sb : List ℕ) (j : ℕ) → j ≤ 14 → deliverOf n ab sb .answer ≡ Refused j → deliverOf k ab sb .answer ≡ Refused j
+  pub refuses : (n k : Node) → Alike n k → (ab sb : List ℕ) (j : ℕ) → j ≤ 14 → deliverOf n ab sb .answer ≡ Refused j → deliverOf k ab sb .answer
+      ≡ Refused j
   pub performs : (n k : Node) → Alike n k → (ab sb : List ℕ) → deliverOf n ab sb .answer ≡ Done
       → (deliverOf k ab sb .answer ≡ Done) × (deliverOf k ab sb .node .state ≡ deliverOf n ab sb .node .state)
 
@@ -45,9 +45,10 @@ pub record RulesOfState : Type 0 where
 abbrev pub QueryKeepsAlike : Type 0
 QueryKeepsAlike = (n : Node) (qb : List ℕ) → Alike (queryOf n qb .node) n
 
--- Rule 3 is about the own seat, so a halted node and a running one can differ: the first checkpoint's state with seat 2 retired, and nodes at seats 0 and 2.
+-- Rule 3 is about the own seat, so a halted node and a running one can differ: the first checkpoint's state with seat 2 retired, and nodes at seats 0
+-- and 2.
 abbrev pub oneRetired : State
-oneRetired = restand 2 retired (readCheckpoint firstCheckpoint .state)
+oneRetired = withStanding 2 retired (readCheckpoint firstCheckpoint .state)
 
 abbrev pub atSeat : ℕ → Node
 atSeat i = record { state = oneRetired; own = ownAfresh i 1 }
@@ -62,7 +63,8 @@ pub record OwnSeatMatters : Type 0 where
 
 -- Two sheets with which an announcement is performed lead to the same reply of one node, and to the same state of two nodes that shared their state.
 pub record SameQuorum : Type 0 where
-  pub reply : (n : Node) (ab sb tb : List ℕ) → deliverOf n ab sb .answer ≡ Done → deliverOf n ab tb .answer ≡ Done → deliverOf n ab sb ≡ deliverOf n ab tb
+  pub reply : (n : Node) (ab sb tb : List ℕ) → deliverOf n ab sb .answer ≡ Done → deliverOf n ab tb .answer ≡ Done → deliverOf n ab sb
+      ≡ deliverOf n ab tb
   pub state : (n k : Node) → n .state ≡ k .state → (ab sb tb : List ℕ) → deliverOf n ab sb .answer ≡ Done → deliverOf k ab tb .answer ≡ Done
       → deliverOf n ab sb .node .state ≡ deliverOf k ab tb .node .state
 

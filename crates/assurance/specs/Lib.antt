@@ -1,7 +1,6 @@
 -- What an owner can rely on, beyond demand 3.
 pub mod Refusals
 pub mod Interference
-pub mod Sheets
 pub mod Progress
 pub mod Tight
 pub mod Earned

@@ -4,11 +4,11 @@ use mathlib.Core.Bool.{false}
 use mathlib.Core.List.{List}
 use Prim.Native.Nat.{ℕ, _≤_, _<_}
 use Rattle.state.specs.declared.State.{State}
+use Rattle.state.specs.Time.{DayNotAfter}
 use Rattle.state.specs.Seats.{retired, seatAt}
 use Rattle.records.specs.declared.Announcement.{Announcement}
 use Rattle.records.specs.declared.Action.the-variants.{Certify, Rejoin}
-use Rattle.records.specs.declared.Row.{Row}
-use Rattle.records.specs.Sheet.{names}
+use Rattle.records.specs.Sheet.{Row, names}
 use Rattle.checkpoint.specs.Checkpoint.{readCheckpoint}
 use Rattle.actions.specs.Perform.{perform}
 use Rattle.agreement.specs.History.{History}
@@ -18,10 +18,10 @@ use Rattle.agreement.specs.Chain.{Step, Reached}
 -- From s to u the life of seat i does not fall, nor does the day, and the seat stays retired.
 pub record Rises (i : ℕ) (s u : State) : Type 0 where
   pub life : seatAt i (s .seats) .life ≤ seatAt i (u .seats) .life
-  pub day : s .day .0 ≤ u .day .0
+  pub day : DayNotAfter (s .day) (u .day)
   pub stays-retired : seatAt i (s .seats) .standing ≡ retired → seatAt i (u .seats) .standing ≡ retired
 
--- "along the chain lives and days never fall and a retired seat stays retired"
+-- Along the chain lives and days never fall, and a retired seat stays retired.
 abbrev pub NeverFalls : Type 0
 NeverFalls = (first : List ℕ) (calls : History) → Park first calls
     → (s u : State) → Reached s (Step calls) u → (i : ℕ) → Rises i s u
@@ -34,12 +34,12 @@ pub data Stems (first : State) (calls : History) (s : State) (i life : ℕ) : Ty
   rejoined : (r : State) (a : Announcement) → Reached first (Step calls) r → Step calls r a → a .action ≡ Rejoin i life
       → Reached (perform r a) (Step calls) s → Stems first calls s i life
 
--- "Every life in a reached state stems from the first checkpoint, a certify or a rejoin"
+-- Every life in a reached state stems from the first checkpoint, a certify or a rejoin.
 abbrev pub LivesStem : Type 0
 LivesStem = (first : List ℕ) (calls : History) (s : State) → Reached (readCheckpoint first .state) (Step calls) s
     → (i : ℕ) → Stems (readCheckpoint first .state) calls s i (seatAt i (s .seats) .life)
 
--- "a row with an earlier life never counts after the rejoin": it does not name the seat under its listed life
+-- A row with an earlier life never counts after the rejoin: it does not name the seat under its listed life.
 abbrev pub EarlierLivesNeverCount : Type 0
 EarlierLivesNeverCount = (first : List ℕ) (calls : History) → Park first calls
     → (r : State) (a : Announcement) (i life : ℕ) → Step calls r a → a .action ≡ Rejoin i life

@@ -9,9 +9,9 @@ use Prim.Native.Nat.{ℕ, _+_, _≤_}
 use Rattle.binary.specs.Number.{overwrite}
 use Rattle.node.specs.declared.Node.{Node}
 use Rattle.node.specs.declared.CheckpointAnswer.the-variants.{Refused}
-use Rattle.node.specs.Give.{checkpointOf, checkpointSlice}
-use Rattle.node.specs.Claims.{withMissCount}
-use Rattle.node_c.specs.Image.{imageBytes, isImage, readImage}
+use Rattle.node.specs.Checkpoint.{checkpointOf, checkpointSlice}
+use Rattle.node.specs.Query.{withMissCount}
+use Rattle.image.specs.Image.{imageBytes, isImage, readImage}
 use Rattle.node_c.specs.Calls.{Returned, nodeStart, nodeDeliver, nodeQuery, nodeCheckpoint}
 use Rattle.agreement.specs.History.{byValue, throughC, Call, start, deliver, query, checkpoint, Cluster, run}
 

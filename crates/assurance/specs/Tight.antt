@@ -1,4 +1,5 @@
--- The double-voter bound of demand 3 can't be loosened by one: for each margin m a computed history in which exactly 2m+1 seats count on both sheets, and two
+-- The double-voter bound of demand 3 can't be loosened by one: for each margin m a computed history in which exactly 2m+1 seats count on both sheets,
+-- and two
 -- nodes at one cycle differ.
 use mathlib.Core.Path.{_≡_}
 use mathlib.Core.Logic.{_≢_}
@@ -7,21 +8,22 @@ use mathlib.Core.Option.{some}
 use Prim.Native.Nat.{ℕ, zero, suc, _+_, _*_, _-_, _≤_}
 use lib.ListN.{replicate}
 use Rattle.state.specs.declared.State.{State}
+use Rattle.state.specs.Limits.{proposalRows, loginRows, mostMargin}
 use Rattle.state.specs.Time.{cycle, day}
 use Rattle.state.specs.Seats.{present, freeSeat}
-use Rattle.state.specs.Proposals.{noProposal}
-use Rattle.state.specs.Logins.{noLogin}
+use Rattle.state.specs.Rows.{noProposal}
+use Rattle.state.specs.Rows.{noLogin}
 use Rattle.records.specs.declared.Announcement.{Announcement}
-use Rattle.records.specs.declared.Row.{Row}
-use Rattle.records.specs.Sheet.{rowsOf, countedOnBoth}
+use Rattle.records.specs.Sheet.{Row, rowsOf, countedOnBoth}
 use Rattle.checkpoint.specs.Checkpoint.{checkpointBytes}
-use Rattle.marked_examples.specs.Records.{grantTo}
+use Rattle.examples.specs.Records.{grantTo}
 use Rattle.agreement.specs.History.{byValue, throughC, start, deliver, History, Moment, moments, answer}
 use Rattle.agreement.specs.Claims.{_∈_, Performed, Park, Agreement}
 use Rattle.agreement.specs.NotIdle.{room}
-use Rattle.assurance.specs.Sheets.{sheetOf}
+use Rattle.records.specs.Sheet.{sheetOf}
 
--- "Commissioned at cycle 1, day 100, one trustee per level", k=1, S=30, lists empty; here with margin m, and seats 0 to 2m present at life 1. The quorum is
+-- "Commissioned at cycle 1, day 100, one trustee per level", k=1, S=30, lists empty; here with margin m, and seats 0 to 2m present at life 1. The
+-- quorum is
 -- then m+1+m, which is all of them.
 abbrev pub firstState : ℕ → State
 firstState m = record {
@@ -29,12 +31,10 @@ firstState m = record {
   day = day 100;
   trustees1 = 1;
   trustees2 = 1;
-  margin = m;
-  least = 1;
-  silence = 30;
+  minima = record { margin = m; least = 1; silence = 30 };
   seats = replicate (2 * m + 1) (record { standing = present; life = 1 }) ++ replicate (31 - 2 * m) freeSeat;
-  proposals = replicate 16 noProposal;
-  logins = replicate 64 noLogin;
+  proposals = replicate proposalRows noProposal;
+  logins = replicate loginRows noLogin;
 }
 
 abbrev pub first : ℕ → List ℕ
@@ -53,7 +53,8 @@ rowsBelow (suc n) = rowsBelow n ++ (record { seat = n; life = 1 } ∷ [])
 abbrev pub fullSheet : ℕ → List ℕ
 fullSheet m = sheetOf 1 0 (rowsBelow (2 * m + 1))
 
--- Two hosts start from the first checkpoint, at seats 0 and 2m, and each performs another announcement in cycle 1, with that sheet: every present seat is a
+-- Two hosts start from the first checkpoint, at seats 0 and 2m, and each performs another announcement in cycle 1, with that sheet: every present
+-- seat is a
 -- double voter.
 abbrev pub divided : ℕ → History
 divided m =
@@ -67,7 +68,7 @@ divided m =
 abbrev pub LooserBound : History → Type 0
 LooserBound calls = (t u : Moment) → t ∈ calls → u ∈ calls
     → (s : State) (ab bb : List ℕ) (a b : Announcement) (asb bsb : List ℕ) → Performed t s ab a asb → Performed u s bb b bsb → ab ≢ bb
-    → countedOnBoth (rowsOf asb) (rowsOf bsb) (s .seats) ≤ 2 * s .margin + 1
+    → countedOnBoth (rowsOf asb) (rowsOf bsb) (s .seats) ≤ 2 * s .minima .margin + 1
 
 -- The starts are lawful, all four calls are answered 0, exactly 2m+1 seats count on both sheets, the looser bound holds, and Agreement does not.
 pub record BeyondByOne (m : ℕ) : Type 0 where
@@ -79,4 +80,4 @@ pub record BeyondByOne (m : ℕ) : Type 0 where
 
 -- at every margin in range
 abbrev pub BoundIsTight : Type 0
-BoundIsTight = (m : ℕ) → m ≤ 7 → BeyondByOne m
+BoundIsTight = (m : ℕ) → m ≤ mostMargin → BeyondByOne m

@@ -56,7 +56,8 @@ _⊗-laws_ {f} {g} F G = record {
 }
 
 -- the same bytes for another type, where `to` and `of` are inverse
-pub onto-laws : {A B : Type 0} {f : Codec A} (to : A → B) (of : B → A) → ((x : B) → to (of x) ≡ x) → ((a : A) → of (to a) ≡ a) → Laws f → Laws (onto f to of)
+pub onto-laws : {A B : Type 0} {f : Codec A} (to : A → B) (of : B → A) → ((x : B) → to (of x) ≡ x) → ((a : A) → of (to a) ≡ a) → Laws f → Laws
+    (onto f to of)
 onto-laws {f} to of p q F = record {
   long = λ x h. F .long (of x) h;
   back = λ x h t. rw (F .back (of x) h t) (p x);
@@ -92,7 +93,14 @@ module _ {A : Type 0} {f : Codec A} (F : Laws f) where
   rows-forth zero b l h = rw zero-mul
   rows-forth (suc n) b l h =
       let l′ : n * f .width + f .width ≤ length b = rw suc-mul at l in
-      rw (suc-mul, add-comm, take-add, F .forth b (omega arith) h, rows-forth n (drop (f .width) b) (rw length-drop (omega arith)) (bytes-drop (f .width) b h))
+      rw (
+        suc-mul,
+        add-comm,
+        take-add,
+        F .forth b (omega arith) h,
+        rows-forth n (drop (f .width) b) (rw length-drop (omega arith))
+            (bytes-drop (f .width) b h),
+      )
 
   pub rows-laws : (n : ℕ) → Laws (rows f n)
   rows-laws n = record { long = rows-long n; back = rows-back n; fits = rows-fits n; forth = rows-forth n }

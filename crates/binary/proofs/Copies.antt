@@ -17,11 +17,13 @@ pub record Copied (d₀ : List ℕ) (at : ℕ) (v : List ℕ) (i : ℕ) (d : Lis
 pub copied-none : (d : List ℕ) (at : ℕ) (v : List ℕ) → Copied d at v 0 d
 copied-none d at v = record { within = omega arith; same-length = refl; copied = paste-zero d at v }
 
-pub copied-one : (d₀ : List ℕ) (at : ℕ) (v : List ℕ) (i : ℕ) (d : List ℕ) → Copied d₀ at v i d → at + length v ≤ length d₀ → i < length v → Copied d₀ at v (i + 1) (set d (at + i) (getD v i 0))
+pub copied-one : (d₀ : List ℕ) (at : ℕ) (v : List ℕ) (i : ℕ) (d : List ℕ) → Copied d₀ at v i d → at + length v ≤ length d₀ → i < length v
+    → Copied d₀ at v (i + 1) (set d (at + i) (getD v i 0))
 copied-one d₀ at v i d h room k = record {
   within = omega arith;
   same-length = length-set d (at + i) (getD v i 0) ∙ h .same-length;
-  copied = ap (λ (l : List ℕ). set l (at + i) (getD v i 0)) (h .copied) ∙ paste-suc d₀ at v i 0 (omega arith) k ∙ ap (paste d₀ at v) (sym (add-one i));
+  copied = ap (λ (l : List ℕ). set l (at + i) (getD v i 0)) (h .copied) ∙ paste-suc d₀ at v i 0 (omega arith) k ∙ ap (paste d₀ at v)
+      (sym (add-one i));
 }
 
 pub copied-all : (d₀ : List ℕ) (at : ℕ) (v : List ℕ) (i : ℕ) (d : List ℕ) → Copied d₀ at v i d → length v ≤ i → d ≡ splice d₀ at v

@@ -5,3 +5,4 @@ pub mod Splices
 pub mod Rows
 pub mod Copies
 pub mod Frames
+pub mod Slices

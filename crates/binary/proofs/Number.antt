@@ -80,3 +80,22 @@ number-add (suc v) w [] = rw (suc-add, number-nil w) (omega (arith, mul-zero (25
 number-add (suc v) w (x ∷ xs) =
     rw (suc-add, pow-suc)
     (omega (arith, number-add v w xs, mul-right-comm (256 ^ v) 256 (fromBytes w (drop v xs))))
+
+low : (y m h : ℕ) → y ≡ 256 * m + h → h % 256 ≡ y % 256
+low y m h e = omega arith
+
+-- the bytes of a number of eight from its two halves
+pub bytes-halves : (x : ℕ) → toBytes 4 (x % 4294967296) ++ toBytes 4 (x / 4294967296) ≡ toBytes 8 x
+unfolding toBytes
+bytes-halves x =
+    let q = x / 4294967296 in
+    let h = x % 4294967296 in
+    let d1 : x / 256 ≡ 16777216 * q + h / 256 = omega arith in
+    let d2 : x / 256 / 256 ≡ 65536 * q + h / 256 / 256 = omega arith in
+    let d3 : x / 256 / 256 / 256 ≡ 256 * q + h / 256 / 256 / 256 = omega arith in
+    let e0 = low x (16777216 * q) h (omega arith) in
+    let e1 = low (x / 256) (65536 * q) (h / 256) (omega arith) in
+    let e2 = low (x / 256 / 256) (256 * q) (h / 256 / 256) (omega arith) in
+    let e3 = low (x / 256 / 256 / 256) q (h / 256 / 256 / 256) d3 in
+    let e4 : q ≡ x / 256 / 256 / 256 / 256 = omega arith in
+    rw (e0, e1, e2, e3, e4)

@@ -10,7 +10,7 @@ use lib.Dec.{leb}
 use lib.ListN.{length, getD, set, take, drop, length-append, length-set}
 use lib.Seq.{take-suc-set, take-suc, take-all, drop-drop, length-take-le}
 use Rattle.lists.specs.Fold.{all}
-use Rattle.lists.specs.Table.{leading}
+use Rattle.lists.specs.Code.{leading}
 use Rattle.lists.proofs.Loops.{all-pass, all-fail, all-end, leading-pass, leading-fail, leading-end}
 use Rattle.binary.specs.Codec.{Codec, encodeRows, decodeRows}
 use Rattle.binary.specs.Splice.{splice}
@@ -21,7 +21,8 @@ module _ {A : Type 0} (f : Codec A) where
   encodeRows-snoc : (xs : List A) (x : A) → encodeRows f (xs ++ (x ∷ [])) ≡ encodeRows f xs ++ f .encode x
   unfolding encodeRows
   encodeRows-snoc [] x = append-nil (f .encode x)
-  encodeRows-snoc (y ∷ ys) x = ap (λ (l : List ℕ). f .encode y ++ l) (encodeRows-snoc ys x) ∙ sym (append-assoc (f .encode y) (encodeRows f ys) (f .encode x))
+  encodeRows-snoc (y ∷ ys) x = ap (λ (l : List ℕ). f .encode y ++ l) (encodeRows-snoc ys x) ∙ sym
+      (append-assoc (f .encode y) (encodeRows f ys) (f .encode x))
 
   decodeRows-snoc : (n : ℕ) (b : List ℕ) → decodeRows f (suc n) b ≡ decodeRows f n b ++ (f .decode (drop (n * f .width) b) ∷ [])
   unfolding decodeRows
@@ -31,7 +32,7 @@ module _ {A : Type 0} (f : Codec A) where
       rw (decodeRows-snoc n (drop (f .width) b), drop-drop, k)
 
   -- row i of n lies after i rows, and there is none from n on
-  row-of : (n i : ℕ) (b : List ℕ) (d : A) → i < n → getD (decodeRows f n b) i d ≡ f .decode (drop (i * f .width) b)
+  pub row-of : (n i : ℕ) (b : List ℕ) (d : A) → i < n → getD (decodeRows f n b) i d ≡ f .decode (drop (i * f .width) b)
   unfolding decodeRows
   row-of zero i b d h = absurd (omega arith)
   row-of (suc n) zero b d h = rw zero-mul
@@ -49,19 +50,19 @@ module _ {A : Type 0} (f : Codec A) where
   row-at n s at i d h = row-of n i (drop at s) d h ∙ ap (λ (l : List ℕ). f .decode l) (drop-drop (i * f .width) at s)
 
   -- a test of row i
-  pub row-test : (n : ℕ) (s : List ℕ) (at i : ℕ) (d : A) (p : A → Bool) (x : A) (t : Bool) → i < n → x ≡ f .decode (drop (at + i * f .width) s) → t ≡ p x
-      → p (getD (decodeRows f n (drop at s)) i d) ≡ t
-  row-test n s at i d p x t h e q = ap p (row-at n s at i d h ∙ sym e) ∙ sym q
+  pub row-test : (n : ℕ) (s : List ℕ) (i : ℕ) (d : A) (p : A → Bool) (x : A) (t : Bool) → i < n → x ≡ f .decode (drop (i * f .width) s) → t ≡ p x
+      → p (getD (decodeRows f n s) i d) ≡ t
+  row-test n s i d p x t h e q = ap p (row-of n i s d h ∙ sym e) ∙ sym q
 
   pub length-decodeRows : (n : ℕ) (b : List ℕ) → length (decodeRows f n b) ≡ n
   unfolding decodeRows
   length-decodeRows zero b = refl
   length-decodeRows (suc n) b = ap suc (length-decodeRows n (drop (f .width) b))
 
-  -- loops that test the rows of a table where they lie, from index `at` of s on: the turn at row i, which is x, and the end
-  module _ (n : ℕ) (s : List ℕ) (at i : ℕ) (d : A) (p : A → Bool) where
+  -- loops that test the rows of a table where they lie, at the front of s: the turn at row i, which is x, and the end
+  module _ (n : ℕ) (s : List ℕ) (i : ℕ) (d : A) (p : A → Bool) where
     abbrev table : List A
-    table = decodeRows f n (drop at s)
+    table = decodeRows f n s
 
     inside : i < n → i < length table
     inside h = rw length-decodeRows h
@@ -69,18 +70,19 @@ module _ {A : Type 0} (f : Codec A) where
     outside : n ≤ i → length table ≤ i
     outside h = rw length-decodeRows h
 
-    module _ (x : A) (h : i < n) (e : x ≡ f .decode (drop (at + i * f .width) s)) where
+    module _ (x : A) (h : i < n) (e : x ≡ f .decode (drop (i * f .width) s)) where
       pub all-row : (t : Bool) → t ≡ p x → t ≡ true → all p (drop i table) ≡ all p (drop (i + 1) table)
-      all-row t q k = all-pass p table i d (inside h) (row-test n s at i d p x t h e q ∙ k)
+      all-row t q k = all-pass p table i d (inside h) (row-test n s i d p x t h e q ∙ k)
 
       pub not-row : (t : Bool) → t ≡ p x → t ≡ false → all p (drop i table) ≡ false
-      not-row t q k = all-fail p table i d (inside h) (row-test n s at i d p x t h e q ∙ k)
+      not-row t q k = all-fail p table i d (inside h) (row-test n s i d p x t h e q ∙ k)
 
-      pub lead-row : (key : A → ℕ) (lo : ℕ) → (leb lo (key x) && p x) ≡ true → leading p key lo (drop i table) ≡ 1 + leading p key (key x + 1) (drop (i + 1) table)
-      lead-row key lo = rw (row-at n s at i d h ∙ sym e) at (leading-pass p key table i lo d (inside h))
+      pub lead-row : (key : A → ℕ) (lo : ℕ) → (leb lo (key x) && p x) ≡ true
+          → leading p key lo (drop i table) ≡ 1 + leading p key (key x + 1) (drop (i + 1) table)
+      lead-row key lo = rw (row-of n i s d h ∙ sym e) at (leading-pass p key table i lo d (inside h))
 
       pub last-row : (key : A → ℕ) (lo : ℕ) → (leb lo (key x) && p x) ≡ false → leading p key lo (drop i table) ≡ 0
-      last-row key lo = rw (row-at n s at i d h ∙ sym e) at (leading-fail p key table i lo d (inside h))
+      last-row key lo = rw (row-of n i s d h ∙ sym e) at (leading-fail p key table i lo d (inside h))
 
     pub all-rows : n ≤ i → all p (drop i table) ≡ true
     all-rows h = all-end p table i (outside h)
@@ -98,7 +100,8 @@ module _ {A : Type 0} (f : Codec A) where
   unfolding decodeRows
   read-none n b table l = record { within = omega arith; size = l; read = refl }
 
-  pub read-one : (n : ℕ) (s : List ℕ) (at i : ℕ) (table : List A) (x : A) → RowsRead n (drop at s) i table → i < n → x ≡ f .decode (drop (at + i * f .width) s)
+  pub read-one : (n : ℕ) (s : List ℕ) (at i : ℕ) (table : List A) (x : A) → RowsRead n (drop at s) i table → i < n → x ≡ f .decode
+      (drop (at + i * f .width) s)
       → RowsRead n (drop at s) (i + 1) (set table i x)
   read-one n s at i table x h k e =
       let z = h .size in
@@ -125,7 +128,8 @@ module _ {A : Type 0} (f : Codec A) where
   unfolding encodeRows
   written-none n table d at = record { within = omega arith; same-length = refl; written = sym (splice-none d at) }
 
-  pub written-all : (n : ℕ) (table : List A) (d₀ : List ℕ) (at i : ℕ) (d : List ℕ) → RowsWritten n table d₀ at i d → length table ≡ n → n ≤ i → d ≡ splice d₀ at (encodeRows f table)
+  pub written-all : (n : ℕ) (table : List A) (d₀ : List ℕ) (at i : ℕ) (d : List ℕ) → RowsWritten n table d₀ at i d → length table ≡ n → n ≤ i → d
+      ≡ splice d₀ at (encodeRows f table)
   written-all n table d₀ at i d h l k = h .written ∙ ap (λ (q : List A). splice d₀ at (encodeRows f q)) (take-all i table (omega arith))
 
   -- rows of which each is written as `width` bytes
@@ -138,7 +142,8 @@ module _ {A : Type 0} (f : Codec A) where
     pub rows-size : (n : ℕ) (xs : List A) → length xs ≡ n → length (encodeRows f xs) ≡ n * f .width
     rows-size n xs e = encodeRows-length xs ∙ ap (λ (k : ℕ). k * f .width) e
 
-    pub written-one : (n : ℕ) (table : List A) (d₀ : List ℕ) (at i : ℕ) (d d′ : List ℕ) (x : A) → RowsWritten n table d₀ at i d → length table ≡ n → i < n → at + i * f .width ≤ length d₀
+    pub written-one : (n : ℕ) (table : List A) (d₀ : List ℕ) (at i : ℕ) (d d′ : List ℕ) (x : A) → RowsWritten n table d₀ at i d → length table ≡ n
+        → i < n → at + i * f .width ≤ length d₀
         → length d′ ≡ length d → d′ ≡ splice d (at + i * f .width) (f .encode (getD table i x)) → RowsWritten n table d₀ at (i + 1) d′
     written-one n table d₀ at i d d′ x h l k room same e =
         let y = getD table i x in

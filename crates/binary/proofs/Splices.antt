@@ -28,7 +28,8 @@ splice-splice d at k v w e h =
     let r : List ℕ = drop (at + length v) d in
     let s : take at d ++ (v ++ r) ≡ p ++ r = sym (append-assoc (take at d) v r) in
     let t : drop (k + length w) (p ++ r) ≡ drop (at + length (v ++ w)) d =
-    ap (λ (n : ℕ). drop (n + length w) (p ++ r)) (sym lp) ∙ drop-append-add p r (length w) ∙ drop-drop (length w) (at + length v) d ∙ ap (λ (n : ℕ). drop n d) (add-assoc at (length v) (length w) ∙ ap (λ (n : ℕ). at + n) (sym (length-append v w))) in
+    ap (λ (n : ℕ). drop (n + length w) (p ++ r)) (sym lp) ∙ drop-append-add p r (length w) ∙ drop-drop (length w) (at + length v) d ∙ ap
+    (λ (n : ℕ). drop n d) (add-assoc at (length v) (length w) ∙ ap (λ (n : ℕ). at + n) (sym (length-append v w))) in
     ap (λ (l : List ℕ). take k l ++ (w ++ drop (k + length w) l)) s
     ∙ ap (λ (l : List ℕ). l ++ (w ++ drop (k + length w) (p ++ r))) (take-at p r k lp)
     ∙ ap (λ (l : List ℕ). p ++ (w ++ l)) t
@@ -57,7 +58,8 @@ pub splice-stores : (d : List ℕ) (at x : ℕ) (v : List ℕ) → at + suc (len
 splice-stores d at x v h = rest-sets (set d at x) at 1 v ∙ ap (λ (k : ℕ). sets (set d at x) k v) (add-one at) ∙ splice-sets d at (x ∷ v) h
 
 -- one more write, where the last one ended
-pub then-put : (d₀ d d′ v w : List ℕ) (at k : ℕ) → d′ ≡ splice d k w → d ≡ splice d₀ at v → at + length v ≡ k → k ≤ length d₀ → d′ ≡ splice d₀ at (v ++ w)
+pub then-put : (d₀ d d′ v w : List ℕ) (at k : ℕ) → d′ ≡ splice d k w → d ≡ splice d₀ at v → at + length v ≡ k → k ≤ length d₀ → d′ ≡ splice d₀ at
+    (v ++ w)
 then-put d₀ d d′ v w at k e p q h = e ∙ ap (λ (l : List ℕ). splice l k w) p ∙ splice-splice d₀ at k v w q h
 
 -- d is d₀ with v written from index at up to index k
@@ -68,10 +70,12 @@ pub record Wrote (d₀ : List ℕ) (at k : ℕ) (v d : List ℕ) : Type 0 where
 pub first-put : (d₀ d v : List ℕ) (at n : ℕ) → d ≡ splice d₀ at v → length v ≡ n → Wrote d₀ at (at + n) v d
 first-put d₀ d v at n e l = record { is = e; ends = ap (λ (m : ℕ). at + m) l }
 
-pub next-put : (d₀ d d′ v w : List ℕ) (at k n : ℕ) → Wrote d₀ at k v d → d′ ≡ splice d k w → length w ≡ n → k ≤ length d₀ → Wrote d₀ at (k + n) (v ++ w) d′
+pub next-put : (d₀ d d′ v w : List ℕ) (at k n : ℕ) → Wrote d₀ at k v d → d′ ≡ splice d k w → length w ≡ n → k ≤ length d₀ → Wrote d₀ at (k + n)
+    (v ++ w) d′
 next-put d₀ d d′ v w at k n h e l b = record {
   is = then-put d₀ d d′ v w at k e (h .is) (h .ends) b;
-  ends = ap (λ (m : ℕ). at + m) (length-append v w) ∙ sym (add-assoc at (length v) (length w)) ∙ ap (λ (m : ℕ). m + length w) (h .ends) ∙ ap (λ (m : ℕ). k + m) l;
+  ends = ap (λ (m : ℕ). at + m) (length-append v w) ∙ sym (add-assoc at (length v) (length w)) ∙ ap (λ (m : ℕ). m + length w) (h .ends) ∙ ap
+      (λ (m : ℕ). k + m) l;
 }
 
 -- all is written, from the place where it starts

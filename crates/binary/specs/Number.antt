@@ -4,6 +4,7 @@ use mathlib.Core.Bool.{Bool, _&&_}
 use mathlib.Core.List.{List, [], _∷_, _++_}
 use lib.Dec.{eqb}
 use lib.ListN.{length, getD, drop}
+use Rattle.lists.specs.Fold.{all}
 
 -- what a slice of bytes holds: each element is below 256
 abbrev pub Bytes : List ℕ → Type 0
@@ -27,6 +28,10 @@ field w at b = fromBytes w (drop at b)
 -- the byte of b at an index
 abbrev pub byteAt : ℕ → List ℕ → ℕ
 byteAt at b = getD b at 0
+
+-- "unused ones zero": every byte of b from index `at` on is zero
+unfoldable pub isZeroFrom : ℕ → List ℕ → Bool
+isZeroFrom at b = all (λ x. eqb x 0) (drop at b)
 
 -- "A record is a 2-byte length (of what follows it), a 2-byte kind, a body.": b is one record with this length field
 abbrev pub isFramed : ℕ → List ℕ → Bool

@@ -7,7 +7,7 @@ ghost use mathlib.Core.Path.{_≡_};
 ghost use Prim.Native.Nat.{_+_, _*_, _≤_, _<_};
 ghost use mathlib.Core.List.{[], _∷_};
 ghost use lib.ListN.{length};
-ghost use Rattle.binary.specs.Number.{toBytes, field};
+ghost use Rattle.binary.specs.Number.{toBytes, field, isZeroFrom};
 ghost use Rattle.binary.specs.Splice.{splice};
 
 // A byte as a number of rows or as an index.
@@ -109,12 +109,20 @@ pub fn put_u64(out: &mut [u8], at: usize, x: u64)
     requires { ⌜ at + 8 ≤ length (now out) ⌝ }
     ensures { λ _. ⌜ now (out .exit) ≡ splice (now (out .entry)) at (toBytes 8 x) ⌝ }
 {
-    out[at] = (x % 256) as u8;
-    out[at + 1] = (x / 256 % 256) as u8;
-    out[at + 2] = (x / 256 / 256 % 256) as u8;
-    out[at + 3] = (x / 256 / 256 / 256 % 256) as u8;
-    out[at + 4] = (x / 256 / 256 / 256 / 256 % 256) as u8;
-    out[at + 5] = (x / 256 / 256 / 256 / 256 / 256 % 256) as u8;
-    out[at + 6] = (x / 256 / 256 / 256 / 256 / 256 / 256 % 256) as u8;
-    out[at + 7] = (x / 256 / 256 / 256 / 256 / 256 / 256 / 256 % 256) as u8;
+    put_u32(out, at, (x % 4294967296) as u32);
+    put_u32(out, at + 4, (x / 4294967296) as u32);
+}
+
+// Every byte from an index on is zero.
+pub fn is_zero_from(at: usize, b: &[u8]) -> bool
+    ensures { λ r. ⌜ r ≡ isZeroFrom at (now (b .entry)) ⌝ }
+{
+    let mut i = at;
+    while i < b.len() {
+        if b[i] != 0 {
+            return false;
+        }
+        i += 1;
+    }
+    true
 }

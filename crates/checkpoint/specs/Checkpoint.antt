@@ -3,14 +3,10 @@ use Prim.Native.Nat.{ℕ}
 use mathlib.Core.List.{List}
 use mathlib.Core.Bool.{Bool, true, false, cond, _&&_}
 use lib.Dec.{eqb}
-use lib.ListN.{replicate}
 use Rattle.binary.specs.Number.{isRecord}
 use Rattle.state.specs.declared.State.{State}
-use Rattle.state.specs.Time.{cycle, day}
-use Rattle.state.specs.Seats.{freeSeat}
-use Rattle.state.specs.Proposals.{noProposal}
-use Rattle.state.specs.Logins.{noLogin}
-use Rattle.state.specs.WellFormed.{isWellFormed}
+use Rattle.state.specs.WellFormed.{isWellFormed, blankState}
+use Rattle.checkpoint.specs.Layout.{kindCheckpoint, checkpointLength}
 use Rattle.checkpoint.specs.Format.{Counted, counted, checkpoint, body}
 use Rattle.checkpoint.specs.declared.CheckpointRead.{CheckpointRead}
 
@@ -19,33 +15,18 @@ abbrev pub Fits : State → Type 0
 Fits s = body .Fits (counted s)
 
 unfoldable pub checkpointBytes : State → List ℕ
-checkpointBytes s = checkpoint .encode (1106, (16, counted s))
+checkpointBytes s = checkpoint .encode ((checkpointLength, kindCheckpoint), counted s)
 
 -- the state and the two counts in a checkpoint's bytes
 unfoldable pub decodeCheckpoint : List ℕ → Counted
-decodeCheckpoint b = checkpoint .decode b .1 .1
+decodeCheckpoint b = checkpoint .decode b .1
 
 -- b is exactly one well-formed checkpoint
 unfoldable pub isCheckpoint : List ℕ → Bool
 isCheckpoint b =
     let c = decodeCheckpoint b in
-    isRecord 1106 16 b
+    isRecord checkpointLength kindCheckpoint b
     && ((eqb (c .proposals) (counted (c .state) .proposals) && eqb (c .logins) (counted (c .state) .logins)) && isWellFormed (c .state))
-
--- a state that is not well formed, for where there is none
-unfoldable pub blankState : State
-blankState = record {
-  cycle = cycle 0;
-  day = day 0;
-  trustees1 = 0;
-  trustees2 = 0;
-  margin = 0;
-  least = 0;
-  silence = 0;
-  seats = replicate 32 freeSeat;
-  proposals = replicate 16 noProposal;
-  logins = replicate 64 noLogin;
-}
 
 unfoldable pub readCheckpoint : List ℕ → CheckpointRead
 readCheckpoint b = cond (isCheckpoint b) (record { ok = true; state = decodeCheckpoint b .state }) (record { ok = false; state = blankState })

@@ -1,5 +1,6 @@
 -- The checkpoint.
+pub mod Layout
 pub mod Format
-pub mod Parts
 pub mod Checkpoint
+pub mod Code
 pub mod Claims

@@ -1,33 +1,67 @@
-// Which bytes are a checkpoint. The rows are tested where they lie.
+// Which bytes are a checkpoint. The rows are tested where they lie: each test takes the part of the slice that starts with its table.
 ghost use mathlib.Core.Path.{_≡_};
-ghost use Prim.Native.Nat.{_≤_};
+ghost use Prim.Native.Nat.{_*_, _≤_};
 ghost use lib.ListN.{length, drop};
 ghost use Rattle.lists.specs.Fold.{all};
-ghost use Rattle.lists.specs.Table.{leading};
+ghost use Rattle.lists.specs.Code.{isSpare};
+ghost use Rattle.binary.specs.Codec.{decodeRows};
+ghost use Rattle.state.specs.Limits.{seatCount, proposalRows, loginRows};
 ghost use Rattle.state.specs.Seats.{presentSeats};
-ghost use Rattle.state.specs.WellFormed.{isWellFormedSeat, isPending, isZeroProposal, isGranted, isZeroLogin, areInRange};
-ghost use Rattle.checkpoint.specs.Parts.{seatsIn, proposalsIn, loginsIn, isHead, hasProposals, hasLogins};
+ghost use Rattle.state.specs.Rows.{isProposal, isLogin};
+ghost use Rattle.state.specs.WellFormed.{isWellFormedSeat, isBlankProposal, isBlankLogin};
+ghost use Rattle.checkpoint.specs.Layout.{checkpointSize, seatSize, proposalSize, loginSize};
+ghost use Rattle.checkpoint.specs.Format.{seat, proposal, login};
+ghost use Rattle.checkpoint.specs.Code.{isHead, areSeats, areProposals, areLogins, leadingProposals, leadingLogins, isBody};
 ghost use Rattle.checkpoint.specs.Checkpoint.{decodeCheckpoint, isCheckpoint};
+use crate::Head;
+use crate::layout::CHECKPOINT;
+use crate::layout::CHECKPOINT_LENGTH;
+use crate::layout::LOGIN_COUNT_AT;
+use crate::layout::LOGIN_SIZE;
+use crate::layout::LOGINS_AT;
+use crate::layout::PROPOSAL_COUNT_AT;
+use crate::layout::PROPOSAL_SIZE;
+use crate::layout::PROPOSALS_AT;
+use crate::layout::SEAT_SIZE;
+use crate::layout::SEATS_AT;
+use crate::read::head_in;
 use crate::read::login_at;
 use crate::read::proposal_at;
 use crate::read::seat_at;
 use binary::is_record;
 use binary::size;
-use binary::u16_at;
-use binary::u32_at;
 use state::Cycle;
 use state::Day;
-use state::seat_table::quorum;
+use state::Minima;
+use state::limits::LOGIN_ROWS;
+use state::limits::MOST_TRUSTEES;
+use state::limits::PROPOSAL_ROWS;
+use state::limits::SEATS;
+use state::seats::quorum;
+
+impl Head {
+    fn is_well_formed(self) -> bool
+        ensures { λ r. ⌜ r ≡ isHead self ⌝ }
+    {
+        let cycle = self.cycle;
+        let minima = self.minima;
+        let started = Cycle(0).is_before(cycle);
+        let ranges = minima.is_in_range();
+        started
+            & (((1 <= self.trustees1) & (self.trustees1 <= MOST_TRUSTEES))
+                & (((1 <= self.trustees2) & (self.trustees2 <= MOST_TRUSTEES)) & ranges))
+    }
+}
 
 // The number of present seats.
-fn count_present(b: &[u8]) -> u8
-    requires { ⌜ 1108 ≤ length (now b) ⌝ }
-    ensures { λ r. ⌜ (r ≡ presentSeats (seatsIn (now (b .entry)))) × (r ≤ 32) ⌝ }
+fn count_present(table: &[u8]) -> u8
+    requires { ⌜ seatCount * seatSize ≤ length (now table) ⌝ }
+    ensures { λ r. ⌜ (r ≡ presentSeats (decodeRows seat seatCount (now (table .entry)))) × (r ≤ seatCount) ⌝ }
 {
     let mut n: u8 = 0;
     let mut i: usize = 0;
-    while i < 32 {
-        let seat = seat_at(b, 18 + i * 5);
+    while i < SEATS {
+        let seat = seat_at(table, i * SEAT_SIZE);
         if seat.is_present() {
             n = n + 1;
         }
@@ -36,13 +70,13 @@ fn count_present(b: &[u8]) -> u8
     n
 }
 
-fn are_well_formed_seats(b: &[u8]) -> bool
-    requires { ⌜ 1108 ≤ length (now b) ⌝ }
-    ensures { λ r. ⌜ r ≡ all isWellFormedSeat (seatsIn (now (b .entry))) ⌝ }
+fn are_well_formed_seats(table: &[u8]) -> bool
+    requires { ⌜ seatCount * seatSize ≤ length (now table) ⌝ }
+    ensures { λ r. ⌜ r ≡ all isWellFormedSeat (decodeRows seat seatCount (now (table .entry))) ⌝ }
 {
     let mut i: usize = 0;
-    while i < 32 {
-        let seat = seat_at(b, 18 + i * 5);
+    while i < SEATS {
+        let seat = seat_at(table, i * SEAT_SIZE);
         if seat.is_well_formed() {
             i = i + 1;
         } else {
@@ -52,16 +86,26 @@ fn are_well_formed_seats(b: &[u8]) -> bool
     true
 }
 
+// The seats, of which there must be a quorum by these minima.
+fn are_seats(minima: Minima, table: &[u8]) -> bool
+    requires { ⌜ seatCount * seatSize ≤ length (now table) ⌝ }
+    ensures { λ r. ⌜ r ≡ areSeats minima (decodeRows seat seatCount (now (table .entry))) ⌝ }
+{
+    let p = count_present(table);
+    are_well_formed_seats(table) & (quorum(p, minima.margin, minima.least) <= (p as u32))
+}
+
 // The number of proposals at the front of their table that are well formed and in order.
-fn leading_proposals(b: &[u8], c: Cycle, d: Day) -> usize
-    requires { ⌜ 1108 ≤ length (now b) ⌝ }
-    ensures { λ r. ⌜ (r ≡ leading (isPending c d) (λ x. x .cycle .0) 0 (proposalsIn (now (b .entry)))) × (r ≤ 16) ⌝ }
+fn leading_proposals(table: &[u8], c: Cycle, d: Day) -> usize
+    requires { ⌜ proposalRows * proposalSize ≤ length (now table) ⌝ }
+    ensures { λ r. ⌜ (r ≡ leadingProposals c d (decodeRows proposal proposalRows (now (table .entry)))) × (r ≤ proposalRows) ⌝ }
 {
     let mut lo: u64 = 0;
     let mut i: usize = 0;
-    while i < 16 {
-        let row = proposal_at(b, 179 + i * 18);
-        let key = row.cycle.0 as u64;
+    while i < PROPOSAL_ROWS {
+        let row = proposal_at(table, i * PROPOSAL_SIZE);
+        let cycle = row.cycle;
+        let key = cycle.since(Cycle(0)) as u64;
         if (lo <= key) & row.is_pending(c, d) {
             lo = key + 1;
             i = i + 1;
@@ -73,13 +117,13 @@ fn leading_proposals(b: &[u8], c: Cycle, d: Day) -> usize
 }
 
 // The proposals from a row on are unused.
-fn are_zero_proposals(b: &[u8], from: usize) -> bool
-    requires { ⌜ (1108 ≤ length (now b)) × (from ≤ 16) ⌝ }
-    ensures { λ r. ⌜ r ≡ all isZeroProposal (drop from (proposalsIn (now (b .entry)))) ⌝ }
+fn are_zero_proposals(table: &[u8], from: usize) -> bool
+    requires { ⌜ (proposalRows * proposalSize ≤ length (now table)) × (from ≤ proposalRows) ⌝ }
+    ensures { λ r. ⌜ r ≡ all (isSpare isProposal isBlankProposal) (drop from (decodeRows proposal proposalRows (now (table .entry)))) ⌝ }
 {
     let mut i = from;
-    while i < 16 {
-        let row = proposal_at(b, 179 + i * 18);
+    while i < PROPOSAL_ROWS {
+        let row = proposal_at(table, i * PROPOSAL_SIZE);
         if row.is_zero() {
             i = i + 1;
         } else {
@@ -89,15 +133,24 @@ fn are_zero_proposals(b: &[u8], from: usize) -> bool
     true
 }
 
+// The table of proposals with its count, in a state of this cycle and agreed day.
+fn are_proposals(count: u8, table: &[u8], c: Cycle, d: Day) -> bool
+    requires { ⌜ proposalRows * proposalSize ≤ length (now table) ⌝ }
+    ensures { λ r. ⌜ r ≡ areProposals count c d (decodeRows proposal proposalRows (now (table .entry))) ⌝ }
+{
+    let n = leading_proposals(table, c, d);
+    (size(count) == n) & are_zero_proposals(table, n)
+}
+
 // The number of logins at the front of their table that are well formed and in order.
-fn leading_logins(b: &[u8]) -> usize
-    requires { ⌜ 1108 ≤ length (now b) ⌝ }
-    ensures { λ r. ⌜ (r ≡ leading isGranted (λ x. x .login) 1 (loginsIn (now (b .entry)))) × (r ≤ 64) ⌝ }
+fn leading_logins(table: &[u8]) -> usize
+    requires { ⌜ loginRows * loginSize ≤ length (now table) ⌝ }
+    ensures { λ r. ⌜ (r ≡ leadingLogins (decodeRows login loginRows (now (table .entry)))) × (r ≤ loginRows) ⌝ }
 {
     let mut lo: u64 = 1;
     let mut i: usize = 0;
-    while i < 64 {
-        let row = login_at(b, 468 + i * 10);
+    while i < LOGIN_ROWS {
+        let row = login_at(table, i * LOGIN_SIZE);
         let key = row.login as u64;
         if (lo <= key) & row.is_granted() {
             lo = key + 1;
@@ -110,13 +163,13 @@ fn leading_logins(b: &[u8]) -> usize
 }
 
 // The logins from a row on are unused.
-fn are_zero_logins(b: &[u8], from: usize) -> bool
-    requires { ⌜ (1108 ≤ length (now b)) × (from ≤ 64) ⌝ }
-    ensures { λ r. ⌜ r ≡ all isZeroLogin (drop from (loginsIn (now (b .entry)))) ⌝ }
+fn are_zero_logins(table: &[u8], from: usize) -> bool
+    requires { ⌜ (loginRows * loginSize ≤ length (now table)) × (from ≤ loginRows) ⌝ }
+    ensures { λ r. ⌜ r ≡ all (isSpare isLogin isBlankLogin) (drop from (decodeRows login loginRows (now (table .entry)))) ⌝ }
 {
     let mut i = from;
-    while i < 64 {
-        let row = login_at(b, 468 + i * 10);
+    while i < LOGIN_ROWS {
+        let row = login_at(table, i * LOGIN_SIZE);
         if row.is_zero() {
             i = i + 1;
         } else {
@@ -126,52 +179,37 @@ fn are_zero_logins(b: &[u8], from: usize) -> bool
     true
 }
 
-fn are_in_range(b: &[u8]) -> bool
-    requires { ⌜ 1108 ≤ length (now b) ⌝ }
-    ensures { λ r. ⌜ r ≡ areInRange (decodeCheckpoint (now (b .entry)) .state) ⌝ }
+// The table of logins with its count.
+fn are_logins(count: u8, table: &[u8]) -> bool
+    requires { ⌜ loginRows * loginSize ≤ length (now table) ⌝ }
+    ensures { λ r. ⌜ r ≡ areLogins count (decodeRows login loginRows (now (table .entry))) ⌝ }
 {
-    let silence = u16_at(b, 16);
-    ((1 <= b[12]) & (b[12] <= 8))
-        & (((1 <= b[13]) & (b[13] <= 8))
-            & ((b[14] <= 7)
-                & (((1 <= b[15]) & (b[15] <= 32)) & ((1 <= silence) & (silence <= 365)))))
+    let n = leading_logins(table);
+    (size(count) == n) & are_zero_logins(table, n)
 }
 
-// What comes before the two tables, and the seats.
-fn is_head(b: &[u8]) -> bool
-    requires { ⌜ 1108 ≤ length (now b) ⌝ }
-    ensures { λ r. ⌜ r ≡ isHead (decodeCheckpoint (now (b .entry)) .state) ⌝ }
+// The numbers and the tables of bytes that have a checkpoint's size.
+fn is_body(b: &[u8]) -> bool
+    requires { ⌜ length (now b) ≡ checkpointSize ⌝ }
+    ensures { λ r. ⌜ r ≡ isBody (decodeCheckpoint (now (b .entry))) ⌝ }
 {
-    let p = count_present(b);
-    let cycle = u32_at(b, 4);
-    let seats = are_well_formed_seats(b);
-    (1 <= cycle) & (are_in_range(b) & (seats & (quorum(p, b[14], b[15]) <= (p as u32))))
-}
-
-// The table of proposals, after its count.
-fn has_proposals(b: &[u8]) -> bool
-    requires { ⌜ 1108 ≤ length (now b) ⌝ }
-    ensures { λ r. ⌜ r ≡ hasProposals (decodeCheckpoint (now (b .entry))) ⌝ }
-{
-    let n = leading_proposals(b, Cycle(u32_at(b, 4)), Day(u32_at(b, 8)));
-    (size(b[178]) == n) & are_zero_proposals(b, n)
-}
-
-// The table of logins, after its count.
-fn has_logins(b: &[u8]) -> bool
-    requires { ⌜ 1108 ≤ length (now b) ⌝ }
-    ensures { λ r. ⌜ r ≡ hasLogins (decodeCheckpoint (now (b .entry))) ⌝ }
-{
-    let n = leading_logins(b);
-    (size(b[467]) == n) & are_zero_logins(b, n)
+    let head = head_in(b);
+    let cycle = head.cycle;
+    let day = head.day;
+    let minima = head.minima;
+    let numbers = head.is_well_formed();
+    let seats = are_seats(minima, &b[SEATS_AT..]);
+    let proposals = are_proposals(b[PROPOSAL_COUNT_AT], &b[PROPOSALS_AT..], cycle, day);
+    let logins = are_logins(b[LOGIN_COUNT_AT], &b[LOGINS_AT..]);
+    numbers & (seats & (proposals & logins))
 }
 
 // The bytes are exactly one well-formed checkpoint.
 pub fn is_checkpoint(b: &[u8]) -> bool
     ensures { λ r. ⌜ r ≡ isCheckpoint (now (b .entry)) ⌝ }
 {
-    if is_record(b, 1106, 16) {
-        return is_head(b) & (has_proposals(b) & has_logins(b));
+    if is_record(b, CHECKPOINT_LENGTH, CHECKPOINT) {
+        return is_body(b);
     }
     false
 }

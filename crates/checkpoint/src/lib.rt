@@ -1,15 +1,29 @@
 // The checkpoint: a state as 1,108 bytes.
+use state::Cycle;
+use state::Day;
+use state::Minima;
 use state::State;
 
 mod check;
+pub mod layout;
 mod read;
 mod write;
 
 pub use check::is_checkpoint;
-pub use read::blank_state;
+pub use read::cycle_in;
 pub use read::read_checkpoint;
+pub use read::standing_in;
 pub use read::state_in;
 pub use write::write_checkpoint;
+
+// The numbers of a state, which stand before its tables.
+pub struct Head {
+    pub cycle: Cycle,
+    pub day: Day,
+    pub trustees1: u8,
+    pub trustees2: u8,
+    pub minima: Minima,
+}
 
 // What reading a checkpoint gives: the state, or a blank one where the bytes are not a well-formed checkpoint.
 pub struct CheckpointRead {

@@ -1,25 +1,66 @@
 // A checkpoint read from a slice.
 ghost use mathlib.Core.Path.{_≡_};
 ghost use mathlib.Core.Bool.{false};
-ghost use Prim.Native.Nat.{_+_, _≤_};
+ghost use Prim.Native.Nat.{_+_, _*_, _≤_};
 ghost use lib.ListN.{length, drop};
 ghost use Rattle.binary.specs.Codec.{decodeRows};
-ghost use Rattle.checkpoint.specs.Format.{seat, proposal, login};
-ghost use Rattle.checkpoint.specs.Checkpoint.{decodeCheckpoint, blankState, readCheckpoint};
+ghost use Rattle.state.specs.Limits.{seatCount, proposalRows, loginRows};
+ghost use Rattle.state.specs.Seats.{seatAt};
+ghost use Rattle.state.specs.WellFormed.{blankState};
+ghost use Rattle.checkpoint.specs.Layout.{checkpointSize, headAt, seatSize, proposalSize, loginSize};
+ghost use Rattle.checkpoint.specs.Format.{head, seat, proposal, login};
+ghost use Rattle.checkpoint.specs.Checkpoint.{decodeCheckpoint, readCheckpoint};
 use crate::CheckpointRead;
+use crate::Head;
 use crate::is_checkpoint;
+use crate::layout::HEAD_AT;
+use crate::layout::LOGIN_SIZE;
+use crate::layout::LOGINS_AT;
+use crate::layout::PROPOSAL_SIZE;
+use crate::layout::PROPOSALS_AT;
+use crate::layout::SEAT_SIZE;
+use crate::layout::SEATS_AT;
 use binary::u16_at;
 use binary::u32_at;
 use binary::u64_at;
 use state::Cycle;
 use state::Day;
 use state::Login;
+use state::Minima;
+use state::NO_LOGIN;
+use state::NO_PROPOSAL;
+use state::NO_SEAT;
 use state::Proposal;
 use state::Seat;
 use state::State;
+use state::Subject;
+use state::blank_state;
+use state::limits::LOGIN_ROWS;
+use state::limits::PROPOSAL_ROWS;
+use state::limits::SEATS;
+use state::seats::FREE;
+
+// The numbers before the tables.
+pub fn head_in(b: &[u8]) -> Head
+    requires { ⌜ checkpointSize ≤ length (now b) ⌝ }
+    ensures { λ r. ⌜ r ≡ head .decode (drop headAt (now (b .entry))) ⌝ }
+{
+    let minima = Minima {
+        margin: b[HEAD_AT + 10],
+        least: b[HEAD_AT + 11],
+        silence: u16_at(b, HEAD_AT + 12),
+    };
+    Head {
+        cycle: Cycle(u32_at(b, HEAD_AT)),
+        day: Day(u32_at(b, HEAD_AT + 4)),
+        trustees1: b[HEAD_AT + 8],
+        trustees2: b[HEAD_AT + 9],
+        minima,
+    }
+}
 
 pub fn seat_at(b: &[u8], at: usize) -> Seat
-    requires { ⌜ at + 5 ≤ length (now b) ⌝ }
+    requires { ⌜ at + seatSize ≤ length (now b) ⌝ }
     ensures { λ r. ⌜ r ≡ seat .decode (drop at (now (b .entry))) ⌝ }
 {
     Seat {
@@ -29,19 +70,21 @@ pub fn seat_at(b: &[u8], at: usize) -> Seat
 }
 
 pub fn proposal_at(b: &[u8], at: usize) -> Proposal
-    requires { ⌜ at + 18 ≤ length (now b) ⌝ }
+    requires { ⌜ at + proposalSize ≤ length (now b) ⌝ }
     ensures { λ r. ⌜ r ≡ proposal .decode (drop at (now (b .entry))) ⌝ }
 {
     Proposal {
         cycle: Cycle(u32_at(b, at)),
         day: Day(u32_at(b, at + 4)),
-        kind: u16_at(b, at + 8),
-        arguments: u64_at(b, at + 10),
+        subject: Subject {
+            kind: u16_at(b, at + 8),
+            arguments: u64_at(b, at + 10),
+        },
     }
 }
 
 pub fn login_at(b: &[u8], at: usize) -> Login
-    requires { ⌜ at + 10 ≤ length (now b) ⌝ }
+    requires { ⌜ at + loginSize ≤ length (now b) ⌝ }
     ensures { λ r. ⌜ r ≡ login .decode (drop at (now (b .entry))) ⌝ }
 {
     Login {
@@ -51,52 +94,40 @@ pub fn login_at(b: &[u8], at: usize) -> Login
     }
 }
 
-fn seats_at(b: &[u8], at: usize) -> [Seat; 32]
-    requires { ⌜ at + 160 ≤ length (now b) ⌝ }
-    ensures { λ r. ⌜ r ≡ decodeRows seat 32 (drop at (now (b .entry))) ⌝ }
+fn seats_at(b: &[u8], at: usize) -> [Seat; SEATS]
+    requires { ⌜ at + seatCount * seatSize ≤ length (now b) ⌝ }
+    ensures { λ r. ⌜ r ≡ decodeRows seat seatCount (drop at (now (b .entry))) ⌝ }
 {
-    let mut rows = [Seat {
-        standing: 0,
-        life: 0,
-    }; 32];
+    let mut rows = [NO_SEAT; SEATS];
     let mut i: usize = 0;
-    while i < 32 {
-        rows[i] = seat_at(b, at + i * 5);
+    while i < SEATS {
+        rows[i] = seat_at(b, at + i * SEAT_SIZE);
         i += 1;
     }
     rows
 }
 
-fn proposals_at(b: &[u8], at: usize) -> [Proposal; 16]
-    requires { ⌜ at + 288 ≤ length (now b) ⌝ }
-    ensures { λ r. ⌜ r ≡ decodeRows proposal 16 (drop at (now (b .entry))) ⌝ }
+fn proposals_at(b: &[u8], at: usize) -> [Proposal; PROPOSAL_ROWS]
+    requires { ⌜ at + proposalRows * proposalSize ≤ length (now b) ⌝ }
+    ensures { λ r. ⌜ r ≡ decodeRows proposal proposalRows (drop at (now (b .entry))) ⌝ }
 {
-    let mut rows = [Proposal {
-        cycle: Cycle(0),
-        day: Day(0),
-        kind: 0,
-        arguments: 0,
-    }; 16];
+    let mut rows = [NO_PROPOSAL; PROPOSAL_ROWS];
     let mut i: usize = 0;
-    while i < 16 {
-        rows[i] = proposal_at(b, at + i * 18);
+    while i < PROPOSAL_ROWS {
+        rows[i] = proposal_at(b, at + i * PROPOSAL_SIZE);
         i += 1;
     }
     rows
 }
 
-fn logins_at(b: &[u8], at: usize) -> [Login; 64]
-    requires { ⌜ at + 640 ≤ length (now b) ⌝ }
-    ensures { λ r. ⌜ r ≡ decodeRows login 64 (drop at (now (b .entry))) ⌝ }
+fn logins_at(b: &[u8], at: usize) -> [Login; LOGIN_ROWS]
+    requires { ⌜ at + loginRows * loginSize ≤ length (now b) ⌝ }
+    ensures { λ r. ⌜ r ≡ decodeRows login loginRows (drop at (now (b .entry))) ⌝ }
 {
-    let mut rows = [Login {
-        login: 0,
-        end: Day(0),
-        rights: 0,
-    }; 64];
+    let mut rows = [NO_LOGIN; LOGIN_ROWS];
     let mut i: usize = 0;
-    while i < 64 {
-        rows[i] = login_at(b, at + i * 10);
+    while i < LOGIN_ROWS {
+        rows[i] = login_at(b, at + i * LOGIN_SIZE);
         i += 1;
     }
     rows
@@ -104,57 +135,46 @@ fn logins_at(b: &[u8], at: usize) -> [Login; 64]
 
 // The state in a checkpoint's bytes, whatever they are.
 pub fn state_in(b: &[u8]) -> State
-    requires { ⌜ 1108 ≤ length (now b) ⌝ }
+    requires { ⌜ checkpointSize ≤ length (now b) ⌝ }
     ensures { λ r. ⌜ r ≡ decodeCheckpoint (now (b .entry)) .state ⌝ }
 {
-    let seats = seats_at(b, 18);
-    let proposals = proposals_at(b, 179);
-    let logins = logins_at(b, 468);
+    let head = head_in(b);
+    let cycle = head.cycle;
+    let day = head.day;
+    let minima = head.minima;
+    let seats = seats_at(b, SEATS_AT);
+    let proposals = proposals_at(b, PROPOSALS_AT);
+    let logins = logins_at(b, LOGINS_AT);
     State {
-        cycle: Cycle(u32_at(b, 4)),
-        day: Day(u32_at(b, 8)),
-        trustees1: b[12],
-        trustees2: b[13],
-        margin: b[14],
-        least: b[15],
-        silence: u16_at(b, 16),
+        cycle: cycle,
+        day: day,
+        trustees1: head.trustees1,
+        trustees2: head.trustees2,
+        minima: minima,
         seats: seats,
         proposals: proposals,
         logins: logins,
     }
 }
 
-// The blank state, all zero: it stands for none.
-pub fn blank_state() -> State
-    ensures { λ r. ⌜ r ≡ blankState ⌝ }
+// The cycle in a checkpoint's bytes.
+pub fn cycle_in(b: &[u8]) -> Cycle
+    requires { ⌜ checkpointSize ≤ length (now b) ⌝ }
+    ensures { λ r. ⌜ r ≡ decodeCheckpoint (now (b .entry)) .state .cycle ⌝ }
 {
-    let seats = [Seat {
-        standing: 0,
-        life: 0,
-    }; 32];
-    let proposals = [Proposal {
-        cycle: Cycle(0),
-        day: Day(0),
-        kind: 0,
-        arguments: 0,
-    }; 16];
-    let logins = [Login {
-        login: 0,
-        end: Day(0),
-        rights: 0,
-    }; 64];
-    State {
-        cycle: Cycle(0),
-        day: Day(0),
-        trustees1: 0,
-        trustees2: 0,
-        margin: 0,
-        least: 0,
-        silence: 0,
-        seats,
-        proposals,
-        logins,
+    Cycle(u32_at(b, HEAD_AT))
+}
+
+// The standing of seat i in a checkpoint's bytes, and free where there is no such seat.
+pub fn standing_in(b: &[u8], i: u8) -> u8
+    requires { ⌜ checkpointSize ≤ length (now b) ⌝ }
+    ensures { λ r. ⌜ r ≡ seatAt i (decodeCheckpoint (now (b .entry)) .state .seats) .standing ⌝ }
+{
+    let at = i as usize;
+    if SEATS <= at {
+        return FREE;
     }
+    b[SEATS_AT + SEAT_SIZE * at]
 }
 
 // The answer to bytes that are not a checkpoint.

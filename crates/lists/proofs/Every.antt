@@ -40,7 +40,8 @@ module _ {A : Type 0} (p : A → Bool) where
   any-of [] e = absurd (false≢true e)
   any-of (x ∷ xs) e = at (p x) refl e (any-of xs)
     where
-      at : (b : Bool) → p x ≡ b → (b || any p xs) ≡ true → (any p xs ≡ true → (y : A) × List·Memᴰ y xs × (p y ≡ true)) → (y : A) × List·Memᴰ y (x ∷ xs) × (p y ≡ true)
+      at : (b : Bool) → p x ≡ b → (b || any p xs) ≡ true → (any p xs ≡ true → (y : A) × List·Memᴰ y xs × (p y ≡ true)) → (y : A) × List·Memᴰ y
+          (x ∷ xs) × (p y ≡ true)
       at true h t f = (x, List·Memᴰ·head refl, h)
       at false h t f = let m = f t in (m .0, List·Memᴰ·tail (m .1), m .2)
 

@@ -2,6 +2,8 @@
 pub mod Cases
 pub mod Tests
 pub mod Every
+pub mod Firsts
+pub mod Members
 pub mod Tables
 pub mod Fronts
 pub mod Count

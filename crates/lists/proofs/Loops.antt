@@ -10,7 +10,8 @@ use lib.Dec.{leb}
 use lib.ListN.{length, getD, take, drop, set, replicate, drop-of-length-le, length-set, length-replicate, take-append-drop}
 use lib.Seq.{drop-cons, take-suc, take-suc-set, drop-set-lt, take-all, set-split, length-take-le, take-append-seam}
 use Rattle.lists.specs.Fold.{any, all, count, first}
-use Rattle.lists.specs.Table.{leading, keep, fill, replaceFirst, indexOf, insertAt}
+use Rattle.lists.specs.Table.{keep, fill, replaceFirst}
+use Rattle.lists.specs.Code.{leading, indexOf, insertAt}
 
 -- A turn, where the element at i passes the test or does not. The value d is that of indices that the list does not have.
 module _ {A : Type 0} (p : A → Bool) (l : List A) (i : ℕ) (d : A) (h : i < length l) where

@@ -25,7 +25,8 @@ module _ {A : Type 0} {used : A → Bool} {key : A → ℕ} where
   rising-of lo [] e = unused none
   rising-of lo (r ∷ rs) e =
       cond-cases (λ v. v ≡ true → Rising used key lo (r ∷ rs)) (used r)
-      (λ u t. let h = and-eq-true-iff (leb lo (key r)) (risingFrom used key (suc (key r)) rs) .0 t in row u (leb-true lo (key r) (h .0)) (rising-of (suc (key r)) rs (h .1)))
+      (λ u t. let h = and-eq-true-iff (leb lo (key r)) (risingFrom used key (suc (key r)) rs) .0 t in row u (leb-true lo (key r) (h .0))
+      (rising-of (suc (key r)) rs (h .1)))
       (λ u t. unused (more u (none-of used rs (not-true (any used rs) t)))) e
 
   pub rising-to : {lo : ℕ} {rows : List A} → Rising used key lo rows → risingFrom used key lo rows ≡ true
@@ -46,7 +47,8 @@ module _ {A : Type 0} {used : A → Bool} {key : A → ℕ} where
   rising-keep {lo} p (row {r = r} u l h) =
       cond-cases (Rising used key lo) (p r) (λ e. row u l (rising-keep p h)) (λ e. rising-lower (omega arith) (rising-keep p h))
 
-  pub rising-append-same : {lo : ℕ} {rows : List A} {x : A} (n : ℕ) → Rising used key lo rows → used x ≡ false → Rising used key lo (rows ++ replicate n x)
+  pub rising-append-same : {lo : ℕ} {rows : List A} {x : A} (n : ℕ) → Rising used key lo rows → used x ≡ false → Rising used key lo
+      (rows ++ replicate n x)
   rising-append-same n (unused h) e = unused (all-append-same n h e)
   rising-append-same n (row u l h) e = row u l (rising-append-same n h e)
 
@@ -56,7 +58,8 @@ module _ {A : Type 0} {used : A → Bool} {key : A → ℕ} where
   rising-take (suc n) (row u l h) = row u l (rising-take n h)
 
   -- A row whose key is above those of all used rows may take the place of the first unused one.
-  pub rising-add : {lo : ℕ} {rows : List A} {x : A} → Rising used key lo rows → used x ≡ true → lo ≤ key x → All (λ r. used r ≡ true → key r < key x) rows
+  pub rising-add : {lo : ℕ} {rows : List A} {x : A} → Rising used key lo rows → used x ≡ true → lo ≤ key x → All
+      (λ r. used r ≡ true → key r < key x) rows
       → Rising used key lo (replaceFirst (λ r. not (used r)) x rows)
   unfolding replaceFirst
   rising-add (unused none) e l b = unused none
@@ -67,7 +70,8 @@ module _ {A : Type 0} {used : A → Bool} {key : A → ℕ} where
 pub length-replaceFirst : {A : Type 0} (p : A → Bool) (x : A) (rows : List A) → length (replaceFirst p x rows) ≡ length rows
 unfolding replaceFirst
 length-replaceFirst p x [] = refl
-length-replaceFirst {A} p x (r ∷ rs) = cond-cases (λ (l : List A). length l ≡ suc (length rs)) (p r) (λ e. refl) (λ e. ap suc (length-replaceFirst p x rs))
+length-replaceFirst {A} p x (r ∷ rs) = cond-cases (λ (l : List A). length l ≡ suc (length rs)) (p r) (λ e. refl)
+    (λ e. ap suc (length-replaceFirst p x rs))
 
 pub length-keep : {A : Type 0} (p : A → Bool) (rows : List A) → length (keep p rows) ≤ length rows
 unfolding keep
@@ -84,7 +88,8 @@ pub record IsTable {A : Type 0} (used : A → Bool) (key : A → ℕ) (lo n : �
 
 module _ {A : Type 0} {used : A → Bool} {key : A → ℕ} {lo n : ℕ} {Ok : A → Type 0} {rows : List A} (t : IsTable used key lo n Ok rows) where
   -- It is one again after a row was added, and after rows were dropped.
-  pub table-add : (x : A) → used x ≡ true → lo ≤ key x → Ok x → All (λ r. used r ≡ true → key r < key x) rows → IsTable used key lo n Ok (replaceFirst (λ r. not (used r)) x rows)
+  pub table-add : (x : A) → used x ≡ true → lo ≤ key x → Ok x → All (λ r. used r ≡ true → key r < key x) rows → IsTable used key lo n Ok
+      (replaceFirst (λ r. not (used r)) x rows)
   table-add x u l o b = record {
     size = length-replaceFirst _ x rows ∙ t .size;
     rising = rising-add (t .rising) u l b;

@@ -1,6 +1,8 @@
 -- Laws of tests.
 use mathlib.Core.Path.{_≡_, refl}
-use mathlib.Core.Bool.{Bool, true, false, cond, not, _&&_, _||_, or-false, true≢false}
+use mathlib.Core.Bool.{Bool, true, false, cond, _||_, true≢false}
+use Prim.Native.Nat.{ℕ}
+use native.Mathlib.Omega.{arith}
 
 -- What holds of x where the test passes, and of y where it fails, holds of the one that is chosen.
 pub cond-cases : {A : Type 0} (P : A → Type 0) (b : Bool) {x y : A} → (b ≡ true → P x) → (b ≡ false → P y) → P (cond b x y)
@@ -12,7 +14,6 @@ pub or-false-of : (a b : Bool) → (a || b) ≡ false → (a ≡ false) × (b �
 or-false-of true b e = absurd (true≢false e)
 or-false-of false b e = (refl, e)
 
--- A choice between two tests, as the code writes it.
-pub choice : (b x y : Bool) → ((b && x) || (not b && y)) ≡ cond b x y
-choice true x y = or-false x
-choice false x y = refl
+-- What follows where two constructors are told to be equal: `clash (cc)`.
+pub clash : {P : Type 0} → _≡_ {A = ℕ} 0 1 → P
+clash e = absurd (omega arith)

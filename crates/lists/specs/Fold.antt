@@ -1,6 +1,6 @@
 -- Folds over a list of any element type.
 use Prim.Native.Nat.{ℕ, suc, _+_}
-use mathlib.Core.List.{List, [], _∷_}
+use mathlib.Core.List.{List, [], _∷_, List·Memᴰ}
 use mathlib.Core.Bool.{Bool, true, false, cond, _&&_, _||_}
 
 -- some element passes the test
@@ -27,3 +27,8 @@ countFrom p i (x ∷ xs) = cond (p i x) 1 0 + countFrom p (suc i) xs
 unfoldable pub first : {A : Type 0} → (A → Bool) → A → List A → A
 first p d [] = d
 first p d (x ∷ xs) = cond (p x) x (first p d xs)
+
+-- no number occurs twice
+abbrev pub Distinct : List ℕ → Type 0
+Distinct [] = Unit {0}
+Distinct (i ∷ is) = (¬ List·Memᴰ i is) × Distinct is

@@ -1,3 +1,4 @@
 -- Folds over lists.
 pub mod Fold
 pub mod Table
+pub mod Code

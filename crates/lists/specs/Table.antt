@@ -3,18 +3,13 @@ use Prim.Native.Nat.{ℕ, suc, _-_}
 use mathlib.Core.List.{List, [], _∷_, _++_}
 use mathlib.Core.Bool.{Bool, true, cond, not, _&&_}
 use lib.Dec.{leb}
-use lib.ListN.{length, take, drop, replicate}
+use lib.ListN.{length, replicate}
 use Rattle.lists.specs.Fold.{any}
 
 -- the used rows come first, with strictly rising keys of at least lo, and every row after them is unused
 unfoldable pub risingFrom : {A : Type 0} → (A → Bool) → (A → ℕ) → ℕ → List A → Bool
 risingFrom used key lo [] = true
 risingFrom used key lo (r ∷ rs) = cond (used r) (leb lo (key r) && risingFrom used key (suc (key r)) rs) (not (any used rs))
-
--- the number of rows at the front that pass the test, with strictly rising keys of at least lo
-unfoldable pub leading : {A : Type 0} → (A → Bool) → (A → ℕ) → ℕ → List A → ℕ
-leading p key lo [] = 0
-leading p key lo (r ∷ rs) = cond (leb lo (key r) && p r) (suc (leading p key (suc (key r)) rs)) 0
 
 -- the rows that pass the test, in order
 unfoldable pub keep : {A : Type 0} → (A → Bool) → List A → List A
@@ -29,12 +24,3 @@ fill n unused rows = rows ++ replicate (n - length rows) unused
 unfoldable pub replaceFirst : {A : Type 0} → (A → Bool) → A → List A → List A
 replaceFirst p x [] = []
 replaceFirst p x (r ∷ rs) = cond (p r) (x ∷ rs) (r ∷ replaceFirst p x rs)
-
--- the number of rows before the first that passes the test
-unfoldable pub indexOf : {A : Type 0} → (A → Bool) → List A → ℕ
-indexOf p [] = 0
-indexOf p (r ∷ rs) = cond (p r) 0 (suc (indexOf p rs))
-
--- x before row i, in as many rows as there were
-unfoldable pub insertAt : {A : Type 0} → ℕ → A → List A → List A
-insertAt i x rows = take (length rows) (take i rows ++ (x ∷ drop i rows))

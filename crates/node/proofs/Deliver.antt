@@ -12,69 +12,83 @@ use Rattle.records.specs.declared.AnnouncementRead.{AnnouncementRead}
 use Rattle.records.specs.declared.AnnouncementRead.the-variants.{Read, Malformed}
 use Rattle.records.specs.Announcement.{readAnnouncement}
 use Rattle.records.specs.Sheet.{isSheet}
-use Rattle.actions.specs.Rules.{timeRefusal}
-use Rattle.actions.proofs.Refusals.{passes, passes-rule, not-zero, bounds, time-within, action-within}
+use Rattle.refusals.proofs.Chains.{passes, passes-rule, not-zero, bounds}
+use Rattle.rules.specs.Rules.{timeRefusal}
+use Rattle.rules.proofs.Passed.{time-within, action-within}
+use Rattle.verdicts.specs.Own.{isHalted, canVote, isSameBytes, votedOtherwise}
+use Rattle.verdicts.specs.Verdicts.{deliverRefusal, showsQuorum, voteRefusal}
 use Rattle.node.specs.declared.Node.{Node}
 use Rattle.node.specs.declared.DeliverReply.{DeliverReply}
 use Rattle.node.specs.Answers.{deliverNumber}
-use Rattle.node.specs.Own.{isHalted, canVote, isSameBytes, votedOtherwise}
 use Rattle.node.specs.Deliver as Deliver
-use Rattle.node.specs.Deliver.{deliverRefusal, showsQuorum, voteRefusal, withoutQuorum, deliverRead, deliverRecords, deliverOf}
-use Rattle.node.specs.Claims.{MayVote, Accepted, ShowsQuorum, announcement-malformed, sheet-malformed, rule, may-not-vote, voted-otherwise, Delivery, refuses, votes, performs, DeliverComesTo}
+use Rattle.node.specs.Deliver.{withoutQuorum, deliverRead, deliverRecords, deliverOf}
+use Rattle.node.specs.Claims.{MayVote, Accepted, ShowsQuorum, announcement-malformed, sheet-malformed, rule, may-not-vote}
+use Rattle.node.specs.Claims.{voted-otherwise, Delivery, refuses, votes, performs, DeliverComesTo}
 
--- two lists of bytes that are the same
+-- Two lists of bytes are the same where the test says so.
 pub same-bytes : (b : List ℕ) → isSameBytes b b ≡ true
 unfolding isSameBytes
 same-bytes [] = refl
 same-bytes (x ∷ xs) = rw (eq-eqb x x refl) (same-bytes xs)
 
-may-vote : (n : Node) → canVote n ≡ true → MayVote n
+pub bytes-same : (a b : List ℕ) → isSameBytes a b ≡ true → a ≡ b
+unfolding isSameBytes
+bytes-same [] [] e = refl
+bytes-same [] (y ∷ ys) e = absurd (false≢true e)
+bytes-same (x ∷ xs) [] e = absurd (false≢true e)
+bytes-same (x ∷ xs) (y ∷ ys) e = let t = and-eq-true-iff (eqb x y) (isSameBytes xs ys) .0 e in rw (eqb-true x y (t .0), bytes-same xs ys (t .1))
+
+pub may-vote : (n : Node) → canVote (n .state) (n .own) ≡ true → MayVote n
 may-vote n e = let t = simp and-eq-true-iff at e in record { standing = eqb-true _ _ (t .0); life = eqb-true _ _ (t .1) }
 
-can-vote : (n : Node) → MayVote n → canVote n ≡ true
+can-vote : (n : Node) → MayVote n → canVote (n .state) (n .own) ≡ true
 can-vote n m = rw (eq-eqb _ _ (m .standing), eq-eqb _ _ (m .life))
+
+pub within-rules : (n : Node) (sb : List ℕ) (a : Announcement) → deliverRefusal (n .state) (n .own) a sb ≤ 14
+unfolding deliverRefusal
+within-rules n sb a = search (bounds, time-within, action-within) depth 9
 
 module _ (n : Node) (ab sb : List ℕ) where
   -- no number from 3 to 14 applies
-  accepted : (a : Announcement) → readAnnouncement ab ≡ Read a → isSheet sb ≡ true → deliverRefusal n a sb ≡ 0 → Accepted n ab sb a
+  accepted : (a : Announcement) → readAnnouncement ab ≡ Read a → isSheet sb ≡ true → deliverRefusal (n .state) (n .own) a sb ≡ 0 → Accepted n ab sb a
   unfolding deliverRefusal
   accepted a ra rs z =
-      let p = passes-rule (isHalted n) 3 _ refl z in
+      let p = passes-rule (isHalted (n .state) (n .own)) 3 _ refl z in
       let q = passes (timeRefusal (n .state .cycle) (n .state .day) a) _ (p .1) in
       record { read = ra; sheet = rs; running = eqb-false _ _ (p .0); admitted = record { time = q .0; action = q .1 } }
 
-  within-rules : (a : Announcement) → deliverRefusal n a sb ≤ 14
-  unfolding deliverRefusal
-  within-rules a = search (bounds, time-within, action-within) depth 9
-
   module _ (a : Announcement) (acc : Accepted n ab sb a) where
     -- without a quorum: by whether the node may vote, and whether it voted otherwise
-    by-vote : ¬ ShowsQuorum n sb → (c : Bool) → canVote n ≡ c → (v : Bool) → votedOtherwise n ab ≡ v → Delivery n ab sb (withoutQuorum n ab (voteRefusal n ab))
+    by-vote : ¬ ShowsQuorum n sb → (c : Bool) → canVote (n .state) (n .own) ≡ c → (v : Bool) → votedOtherwise (n .own) ab ≡ v → Delivery n ab sb
+        (withoutQuorum n ab (voteRefusal (n .state) (n .own) ab))
     unfolding voteRefusal
     by-vote few true c true v =
         let t = simp and-eq-true-iff at v in
-        let other : n .own .vote ≢ ab = λ e. false≢true (sym (not-true (isSameBytes (n .own .vote) ab) (t .1)) ∙ ap (λ (b : List ℕ). isSameBytes (n .own .vote) b) (sym e) ∙ same-bytes (n .own .vote)) in
+        let other : n .own .vote ≢ ab =
+        λ e. false≢true
+        (sym (not-true (isSameBytes (n .own .vote) ab) (t .1)) ∙ ap (λ (b : List ℕ). isSameBytes (n .own .vote) b) (sym e) ∙ same-bytes
+        (n .own .vote)) in
         refuses 16 (voted-otherwise a refl acc few (t .0) other) (rw (c, v))
     by-vote few true c false v = votes a acc few (may-vote n c) (rw (c, v))
     by-vote few false c w v = refuses 15 (may-not-vote a refl acc few (λ m. false≢true (sym c ∙ can-vote n m))) (rw c)
 
-    by-quorum : Delivery n ab sb (cond (showsQuorum (n .state) sb) (Deliver.performs n a) (withoutQuorum n ab (voteRefusal n ab)))
+    by-quorum : Delivery n ab sb (cond (showsQuorum (n .state) sb) (Deliver.performs n a) (withoutQuorum n ab (voteRefusal (n .state) (n .own) ab)))
     unfolding showsQuorum
     by-quorum =
         cond-cases (Delivery n ab sb) (showsQuorum (n .state) sb)
         (λ q. performs a acc (leb-true _ _ q) refl)
-        (λ q. by-vote (λ h. false≢true (sym q ∙ le-leb _ _ h)) (canVote n) refl (votedOtherwise n ab) refl)
+        (λ q. by-vote (λ h. false≢true (sym q ∙ le-leb _ _ h)) (canVote (n .state) (n .own)) refl (votedOtherwise (n .own) ab) refl)
 
   by-rules : (a : Announcement) → readAnnouncement ab ≡ Read a → isSheet sb ≡ true → Delivery n ab sb (deliverRead n ab a sb)
   unfolding deliverRead
   by-rules a ra rs =
-      cond-cases (Delivery n ab sb) (eqb (deliverRefusal n a sb) 0)
+      cond-cases (Delivery n ab sb) (eqb (deliverRefusal (n .state) (n .own) a sb) 0)
       (λ z. by-quorum a (accepted a ra rs (eqb-true _ _ z)))
-      (λ z. refuses (deliverRefusal n a sb) (rule a ra rs (not-zero _ z) (within-rules a) refl) refl)
+      (λ z. refuses (deliverRefusal (n .state) (n .own) a sb) (rule a ra rs (not-zero _ z) (within-rules n sb a) refl) refl)
 
   by-records : (o : AnnouncementRead) → readAnnouncement ab ≡ o → Delivery n ab sb (deliverRecords n ab o sb)
   by-records Malformed e = refuses 1 (announcement-malformed refl e) refl
-  by-records (Read a) e = cond-cases (Delivery n ab sb) (isSheet sb) (by-rules a e) (λ rs. refuses 2 (sheet-malformed refl rs) refl)
+  by-records (Read a) e = cond-cases (Delivery n ab sb) (isSheet sb) (by-rules a e) (λ rs. refuses 2 (sheet-malformed a refl e rs) refl)
 
 pub deliver-comes-to : DeliverComesTo
 unfolding deliverOf

@@ -1,6 +1,6 @@
 -- What a start comes to.
 use mathlib.Core.Path.{_≡_, refl}
-use mathlib.Core.Bool.{true, not}
+use mathlib.Core.Bool.{true, cond, not}
 use mathlib.Core.List.{List}
 use Prim.Native.Nat.{ℕ, _≤_}
 use lib.Dec.{eqb, ltb}
@@ -14,12 +14,17 @@ use Rattle.records.specs.declared.StartRead.the-variants.{Read, Malformed}
 use Rattle.records.specs.StartQuery.{readStart}
 use Rattle.checkpoint.specs.declared.CheckpointRead.{CheckpointRead}
 use Rattle.checkpoint.specs.Checkpoint.{isCheckpoint, readCheckpoint}
-use Rattle.actions.proofs.Refusals.{passes-rule, unrefused, by-rule, refused, not-zero}
-use Rattle.node.specs.Start.{startRefusal, startRead, startRecords, startOf}
-use Rattle.node.specs.Claims.{StartRefused, start-malformed, checkpoint-malformed, seat-unfit, life-below, Starting, refuses, starts, StartComesTo}
+use Rattle.refusals.proofs.Chains.{passes-rule, unrefused, by-rule, refused, not-zero}
+use Rattle.verdicts.specs.Verdicts.{startRefusal}
+use Rattle.node.specs.declared.StartReply.{StartReply}
+use Rattle.node.specs.declared.StartAnswer.the-variants.{Started}
+use Rattle.node.specs.Start.{refusesStart, startRead, startRecords, startOf}
+use Rattle.node.specs.Code.{recordsRefusal, ownNamed}
+use Rattle.node.specs.Claims.{StartRefused, start-malformed, checkpoint-malformed, seat-unfit, life-below, Starting, refuses, starts}
+use Rattle.node.specs.Claims.{StartComesTo}
 
 -- a checkpoint is read where it is accepted
-read-ok : (cb : List ℕ) → readCheckpoint cb .ok ≡ isCheckpoint cb
+pub read-ok : (cb : List ℕ) → readCheckpoint cb .ok ≡ isCheckpoint cb
 unfolding readCheckpoint
 read-ok cb = cond-cases (λ (c : CheckpointRead). c .ok ≡ isCheckpoint cb) (isCheckpoint cb) (λ e. rw e) (λ e. rw e)
 
@@ -28,11 +33,11 @@ module _ (cb sb : List ℕ) (x : Start) (rx : readStart sb ≡ Read x) where
   seat = seatAt (x .seat) (readCheckpoint cb .state .seats)
 
   -- why a number k is given
-  why : (k : ℕ) → 1 ≤ k → startRefusal (readCheckpoint cb .state) x ≡ k → StartRefused cb sb k
+  why : isCheckpoint cb ≡ true → (k : ℕ) → 1 ≤ k → startRefusal (readCheckpoint cb .state) x ≡ k → StartRefused cb sb k
   unfolding startRefusal seat
-  why k h =
-      by-rule (not (isActive seat)) 9 _ k refl (λ e a. seat-unfit x e rx (not-true _ a))
-      (λ _ e. let r = refused (ltb (x .life) (seat .life)) 14 k h e in life-below x (r .0) rx (ltb-true _ _ (r .1)))
+  why rc k h =
+      by-rule (not (isActive seat)) 9 _ k refl (λ e a. seat-unfit x e rx rc (not-true _ a))
+      (λ _ e. let r = refused (ltb (x .life) (seat .life)) 14 k h e in life-below x (r .0) rx rc (ltb-true _ _ (r .1)))
 
   by-rules : isCheckpoint cb ≡ true → Starting cb sb (startRead (readCheckpoint cb .state) x)
   unfolding startRead startRefusal seat
@@ -41,11 +46,23 @@ module _ (cb sb : List ℕ) (x : Start) (rx : readStart sb ≡ Read x) where
       (λ z.
       let p = passes-rule (not (isActive seat)) 9 _ refl (eqb-true _ _ z) in
       starts x rx rc (not-false _ (p .0)) (ltb-false _ _ (unrefused (ltb (x .life) (seat .life)) 14 refl (p .1))) refl)
-      (λ z. refuses _ (why _ (not-zero _ z) refl) refl)
+      (λ z. refuses _ (why rc _ (not-zero _ z) refl) refl)
+
+-- a start by the number that refuses it
+pub by-number : (c : CheckpointRead) (o : StartRead) → startRecords c o
+    ≡ cond (eqb (recordsRefusal c o) 0) (record { node = record { state = c .state; own = ownNamed o }; answer = Started })
+    (refusesStart (recordsRefusal c o))
+unfolding startRead
+by-number c Malformed = refl
+by-number c (Read x) = cond-cases
+    (λ (r : StartReply). r ≡ cond (eqb (recordsRefusal c (Read x)) 0)
+    (record { node = record { state = c .state; own = ownNamed (Read x) }; answer = Started }) (refusesStart (recordsRefusal c (Read x))))
+    (c .ok) (λ e. rw e) (λ e. rw e)
 
 by-records : (cb sb : List ℕ) (o : StartRead) → readStart sb ≡ o → Starting cb sb (startRecords (readCheckpoint cb) o)
 by-records cb sb Malformed e = refuses 1 (start-malformed refl e) refl
-by-records cb sb (Read x) e = rw (read-ok cb) (cond-cases (Starting cb sb) (isCheckpoint cb) (by-rules cb sb x e) (λ rc. refuses 1 (checkpoint-malformed refl rc) refl))
+by-records cb sb (Read x) e = rw (read-ok cb)
+    (cond-cases (Starting cb sb) (isCheckpoint cb) (by-rules cb sb x e) (λ rc. refuses 1 (checkpoint-malformed refl rc) refl))
 
 pub start-comes-to : StartComesTo
 unfolding startOf

@@ -2,36 +2,19 @@
 -- announced, vote cleared, misses 0. Without a quorum it votes, unless 15 or 16 applies; the same 24 bytes later in that cycle get the same vote."
 use Prim.Native.Nat.{ℕ}
 use mathlib.Core.List.{List}
-use mathlib.Core.Bool.{Bool, cond, not}
-use lib.Dec.{eqb, leb}
-use Rattle.state.specs.declared.State.{State}
-use Rattle.state.specs.Seats.{quorumOf}
+use mathlib.Core.Bool.{cond}
+use lib.Dec.{eqb}
 use Rattle.records.specs.declared.Announcement.{Announcement}
 use Rattle.records.specs.declared.AnnouncementRead.{AnnouncementRead}
 use Rattle.records.specs.declared.AnnouncementRead.the-variants.{Read, Malformed}
 use Rattle.records.specs.Announcement.{readAnnouncement}
-use Rattle.records.specs.Sheet.{isSheet, level1, level2, rowsOf, countedSeats}
+use Rattle.records.specs.Sheet.{isSheet}
 use Rattle.actions.specs.Perform.{perform}
-use Rattle.actions.specs.Rules.{refuseIf, timeRefusal, actionRefusal, _orElse_}
+use Rattle.verdicts.specs.Own.{ownAfresh, withVote}
+use Rattle.verdicts.specs.Verdicts.{deliverRefusal, showsQuorum, voteRefusal}
 use Rattle.node.specs.declared.Node.{Node}
 use Rattle.node.specs.declared.DeliverReply.{DeliverReply}
 use Rattle.node.specs.declared.DeliverAnswer.the-variants.{Done, Voted, Refused}
-use Rattle.node.specs.Own.{isHalted, canVote, votedOtherwise, ownAfresh, withVote}
-
--- rules 3 to 14 for an announcement with the sheet sb: the lowest number that applies, or 0
-unfoldable pub deliverRefusal : Node → Announcement → List ℕ → ℕ
-deliverRefusal n a sb =
-    refuseIf (isHalted n) 3
-    orElse timeRefusal (n .state .cycle) (n .state .day) a
-    orElse actionRefusal (n .state) (a .day) (level1 sb) (level2 sb) (a .action)
-
--- the sheet shows a quorum of this state
-unfoldable pub showsQuorum : State → List ℕ → Bool
-showsQuorum s sb = leb (quorumOf s) (countedSeats (rowsOf sb) (s .seats))
-
--- rules 15 and 16 for the announcement's bytes ab
-unfoldable pub voteRefusal : Node → List ℕ → ℕ
-voteRefusal n ab = refuseIf (not (canVote n)) 15 orElse refuseIf (votedOtherwise n ab) 16
 
 abbrev pub refusesDelivery : Node → ℕ → DeliverReply
 refusesDelivery n k = record { node = n; answer = Refused k }
@@ -49,9 +32,9 @@ withoutQuorum n ab k = cond (eqb k 0) (votes n ab) (refusesDelivery n k)
 -- a well-formed announcement a, whose bytes are ab, with the sheet sb
 unfoldable pub deliverRead : Node → List ℕ → Announcement → List ℕ → DeliverReply
 deliverRead n ab a sb =
-    let k = deliverRefusal n a sb in
+    let k = deliverRefusal (n .state) (n .own) a sb in
     cond (eqb k 0)
-    (cond (showsQuorum (n .state) sb) (performs n a) (withoutQuorum n ab (voteRefusal n ab)))
+    (cond (showsQuorum (n .state) sb) (performs n a) (withoutQuorum n ab (voteRefusal (n .state) (n .own) ab)))
     (refusesDelivery n k)
 
 -- 1 "record other than a sheet, checkpoint or image malformed", 2 "sheet malformed"

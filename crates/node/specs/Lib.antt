@@ -1,8 +1,10 @@
 -- The four calls by value.
 pub mod Answers
-pub mod Own
 pub mod Deliver
 pub mod Query
 pub mod Start
-pub mod Give
+pub mod Checkpoint
+pub mod Code
+pub mod WellFormed
 pub mod Claims
+pub mod Applies

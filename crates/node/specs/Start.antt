@@ -1,28 +1,23 @@
--- "Start. Commissioning is a start from the park's first checkpoint. Misses 0, no vote. A life above the listed one is taken, but votes only after a rejoin
+-- "Start. Commissioning is a start from the park's first checkpoint. Misses 0, no vote. A life above the listed one is taken, but votes only after a
+-- rejoin
 -- names it."
 use Prim.Native.Nat.{ℕ}
 use mathlib.Core.List.{List}
-use mathlib.Core.Bool.{cond, not}
-use lib.Dec.{eqb, ltb}
+use mathlib.Core.Bool.{cond}
+use lib.Dec.{eqb}
 use Rattle.state.specs.declared.State.{State}
-use Rattle.state.specs.Seats.{seatAt, isActive}
+use Rattle.state.specs.WellFormed.{blankState}
 use Rattle.records.specs.declared.Start.{Start}
 use Rattle.records.specs.declared.StartRead.{StartRead}
 use Rattle.records.specs.declared.StartRead.the-variants.{Read, Malformed}
 use Rattle.records.specs.StartQuery.{readStart}
 use Rattle.checkpoint.specs.declared.CheckpointRead.{CheckpointRead}
-use Rattle.checkpoint.specs.Checkpoint.{readCheckpoint, blankState}
-use Rattle.actions.specs.Rules.{refuseIf, _orElse_}
+use Rattle.checkpoint.specs.Checkpoint.{readCheckpoint}
+use Rattle.verdicts.specs.Own.{ownAfresh}
+use Rattle.verdicts.specs.Verdicts.{startRefusal}
 use Rattle.node.specs.declared.Node.{Node}
 use Rattle.node.specs.declared.StartReply.{StartReply}
 use Rattle.node.specs.declared.StartAnswer.the-variants.{Started, Refused}
-use Rattle.node.specs.Own.{ownAfresh}
-
--- 9 "seat's standing unfit (start: free or retired)", 14 "start life below" the listed one
-unfoldable pub startRefusal : State → Start → ℕ
-startRefusal s x =
-    refuseIf (not (isActive (seatAt (x .seat) (s .seats)))) 9
-    orElse refuseIf (ltb (x .life) (seatAt (x .seat) (s .seats) .life)) 14
 
 -- "a refused start yields no node"
 unfoldable pub blankNode : Node

@@ -3,11 +3,14 @@ ghost use mathlib.Core.Path.{_≡_};
 ghost use mathlib.Core.Bool.{true};
 ghost use Prim.Native.Nat.{_≤_, _<_};
 ghost use lib.ListN.{length};
+ghost use Rattle.records.specs.Layout.{announcementSize};
 ghost use Rattle.records.specs.Sheet.{isSheet};
 ghost use Rattle.node.specs.Deliver.{refusesDelivery, performs, votes, deliverRead, deliverOf};
-ghost use Rattle.node.specs.Query.{missesAre, queryReply, queryOf};
-ghost use Rattle.node.specs.Start.{blankNode, refusesStart, startRead, startOf};
-ghost use Rattle.node.specs.Give.{checkpointOf, checkpointSlice};
+ghost use Rattle.verdicts.specs.Own.{mostMisses};
+ghost use Rattle.node.specs.Query.{withMissCount, addsMiss, queryReply, queryOf};
+ghost use Rattle.node.specs.Start.{blankNode, refusesStart, startOf};
+ghost use Rattle.node.specs.Code.{recordsRefusal, ownNamed};
+ghost use Rattle.node.specs.Checkpoint.{checkpointOf, checkpointSlice};
 use crate::CheckpointAnswer;
 use crate::CheckpointReply;
 use crate::DeliverAnswer;
@@ -17,28 +20,29 @@ use crate::QueryAnswer;
 use crate::QueryReply;
 use crate::StartAnswer;
 use crate::StartReply;
-use crate::own_part::own_afresh;
-use crate::own_part::with_misses;
-use crate::own_part::with_vote;
-use crate::verdicts::deliver_refusal;
-use crate::verdicts::query_refusal;
-use crate::verdicts::shows_quorum;
-use crate::verdicts::start_refusal;
-use crate::verdicts::vote_refusal;
-use actions::effects::perform;
-use checkpoint::blank_state;
+use actions::perform;
+use checkpoint::CheckpointRead;
+use checkpoint::layout::CHECKPOINT_SIZE;
 use checkpoint::read_checkpoint;
 use checkpoint::write_checkpoint;
 use records::Announcement;
 use records::AnnouncementRead;
 use records::QueryRead;
-use records::Start;
 use records::StartRead;
 use records::is_sheet;
 use records::read_announcement;
 use records::read_query;
 use records::read_start;
-use state::State;
+use state::blank_state;
+use verdicts::Own;
+use verdicts::deliver_refusal;
+use verdicts::own_afresh;
+use verdicts::query_refusal;
+use verdicts::shows_quorum;
+use verdicts::start_refusal;
+use verdicts::vote_refusal;
+use verdicts::with_misses;
+use verdicts::with_vote;
 
 fn refuse_delivery(n: Node, number: u8) -> DeliverReply
     ensures { λ r. ⌜ r ≡ refusesDelivery n number ⌝ }
@@ -66,7 +70,7 @@ fn perform_delivery(n: Node, a: Announcement) -> DeliverReply
 }
 
 fn vote_for(n: Node, announcement: &[u8]) -> DeliverReply
-    requires { ⌜ length (now announcement) ≡ 24 ⌝ }
+    requires { ⌜ length (now announcement) ≡ announcementSize ⌝ }
     ensures { λ r. ⌜ r ≡ votes n (now (announcement .entry)) ⌝ }
 {
     let state = n.state;
@@ -100,35 +104,45 @@ fn refuse_start(number: u8) -> StartReply
     }
 }
 
-// From the state of a well-formed checkpoint.
-fn start_from(s: State, x: Start) -> StartReply
-    ensures { λ r. ⌜ r ≡ startRead s x ⌝ }
+// The number that refuses a start, of what its two readers gave, or 0.
+fn records_refusal(c: CheckpointRead, read: StartRead) -> u8
+    ensures { λ r. ⌜ r ≡ recordsRefusal c read ⌝ }
 {
-    let k = start_refusal(s, x);
-    if k != 0 {
-        return refuse_start(k);
+    let StartRead::Read(x) = read else {
+        return 1;
+    };
+    if c.ok {
+        let state = c.state;
+        return start_refusal(state, x);
     }
-    let own = own_afresh(x.seat, x.life);
-    StartReply {
-        node: Node { state: s, own: own },
-        answer: StartAnswer::Started,
-    }
+    1
+}
+
+// The own part that the start record names.
+fn own_named(read: StartRead) -> Own
+    ensures { λ r. ⌜ r ≡ ownNamed read ⌝ }
+{
+    let StartRead::Read(x) = read else {
+        return own_afresh(0, 0);
+    };
+    own_afresh(x.seat, x.life)
 }
 
 // A well-formed announcement with a well-formed sheet.
 fn deliver_read(n: Node, announcement: &[u8], a: Announcement, sheet: &[u8]) -> DeliverReply
-    requires { ⌜ (length (now announcement) ≡ 24) × (isSheet (now sheet) ≡ true) ⌝ }
+    requires { ⌜ (length (now announcement) ≡ announcementSize) × (isSheet (now sheet) ≡ true) ⌝ }
     ensures { λ r. ⌜ r ≡ deliverRead n (now (announcement .entry)) a (now (sheet .entry)) ⌝ }
 {
-    let k = deliver_refusal(n, a, sheet);
+    let state = n.state;
+    let own = n.own;
+    let k = deliver_refusal(state, own, a, sheet);
     if k != 0 {
         return refuse_delivery(n, k);
     }
-    let state = n.state;
     if shows_quorum(state, sheet) {
         return perform_delivery(n, a);
     }
-    let v = vote_refusal(n, announcement);
+    let v = vote_refusal(state, own, announcement);
     if v != 0 {
         return refuse_delivery(n, v);
     }
@@ -137,7 +151,7 @@ fn deliver_read(n: Node, announcement: &[u8], a: Announcement, sheet: &[u8]) -> 
 
 // The reply to a query that leaves the node with this many misses.
 fn reply_with_misses(n: Node, misses: u8, answer: QueryAnswer) -> QueryReply
-    ensures { λ r. ⌜ r ≡ record { node = missesAre misses n; answer = answer } ⌝ }
+    ensures { λ r. ⌜ r ≡ record { node = withMissCount misses n; answer = answer } ⌝ }
 {
     let state = n.state;
     let own = with_misses(n.own, misses);
@@ -147,15 +161,22 @@ fn reply_with_misses(n: Node, misses: u8, answer: QueryAnswer) -> QueryReply
     }
 }
 
+// Whether a query that is refused with this number adds a miss.
+pub fn adds_miss(number: u8) -> bool
+    ensures { λ r. ⌜ r ≡ addsMiss number ⌝ }
+{
+    (19 <= number) & (number <= 21)
+}
+
 // The reply to a query that is refused with this number, or open where it is 0.
 fn reply_to_query(n: Node, number: u8) -> QueryReply
-    requires { ⌜ (19 ≤ number → n .own .misses < 10) ⌝ }
+    requires { ⌜ (addsMiss number ≡ true → n .own .misses < mostMisses) ⌝ }
     ensures { λ r. ⌜ r ≡ queryReply n number ⌝ }
 {
     if number == 0 {
         return reply_with_misses(n, 0, QueryAnswer::Open);
     }
-    if number >= 19 {
+    if adds_miss(number) {
         let own = n.own;
         return reply_with_misses(n, own.misses + 1, QueryAnswer::Refused(number));
     }
@@ -171,15 +192,17 @@ impl Node {
         ensures { λ r. ⌜ r ≡ startOf (now (checkpoint .entry)) (now (start .entry)) ⌝ }
     {
         let read = read_start(start);
-        let StartRead::Read(x) = read else {
-            return refuse_start(1);
-        };
         let c = read_checkpoint(checkpoint);
-        if c.ok {
-            let state = c.state;
-            return start_from(state, x);
+        let number = records_refusal(c, read);
+        if number != 0 {
+            return refuse_start(number);
         }
-        refuse_start(1)
+        let state = c.state;
+        let own = own_named(read);
+        StartReply {
+            node: Node { state, own },
+            answer: StartAnswer::Started,
+        }
     }
 
     // Performs the announcement where the sheet shows a quorum, else votes for it.
@@ -204,7 +227,9 @@ impl Node {
         let QueryRead::Read(q) = read else {
             return reply_to_query(self, 1);
         };
-        let number = query_refusal(self, q);
+        let state = self.state;
+        let own = self.own;
+        let number = query_refusal(state, own, q);
         reply_to_query(self, number)
     }
 
@@ -213,7 +238,7 @@ impl Node {
         ensures { λ r. ⌜ r ≡ checkpointOf self (now (out .entry)) ⌝ }
         ensures { λ r. ⌜ now (out .exit) ≡ checkpointSlice self (now (out .entry)) ⌝ }
     {
-        if out.len() < 1108 {
+        if out.len() < CHECKPOINT_SIZE {
             return CheckpointReply {
                 node: self,
                 answer: CheckpointAnswer::Refused(22),

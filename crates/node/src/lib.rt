@@ -1,22 +1,10 @@
 // The node, and what each of its calls hands back.
 use state::State;
+use verdicts::Own;
 
 mod calls;
-mod own_part;
-mod verdicts;
 
 pub use calls::blank_node;
-
-// What is this node's alone (01: its own part).
-pub struct Own {
-    pub seat: u8,
-    pub life: u32,
-    // Whether it voted in this cycle, and the 24 bytes of the announcement that it voted for, zero where it did not.
-    pub voted: bool,
-    pub vote: [u8; 24],
-    // The bad queries in a row, 0 to 10.
-    pub misses: u8,
-}
 
 pub struct Node {
     pub state: State,

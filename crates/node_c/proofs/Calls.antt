@@ -9,7 +9,8 @@ use lib.ListN.{length}
 use borrow.Author.Tests.{eqb-true, eqb-false, leb-true, leb-false, le-leb}
 use Rattle.lists.proofs.Tests.{cond-cases, or-false-of}
 use Rattle.binary.specs.Number.{overwrite}
-use Rattle.node_c.specs.Image.{imageSize, imageBytes, isImage, ImageRead, readImage}
+use Rattle.image.specs.Layout.{imageSize}
+use Rattle.image.specs.Image.{imageBytes, isImage, ImageRead, readImage}
 use Rattle.node_c.specs.Calls.{HandedBack, Returned, tryRoom, writesImage, return, onImage}
 use Rattle.node_c.specs.Claims.{Writes, Returning, no-room, writes, leaves, CallsReturn, CallsOnImages}
 
@@ -27,7 +28,8 @@ writes-of k =
 no-writes : (k : ℕ) → writesImage k ≡ false → ¬ Writes k
 no-writes k e (inl z) = true≢false (rw z at e)
 no-writes k e (inr (inl z)) = true≢false (rw z at e)
-no-writes k e (inr (inr m)) = true≢false (rw (le-leb 19 k (m .0), le-leb k 21 (m .1)) at (or-false-of (eqb k 128) _ (or-false-of (eqb k 0) _ e .1) .1))
+no-writes k e (inr (inr m)) = true≢false
+    (rw (le-leb 19 k (m .0), le-leb k 21 (m .1)) at (or-false-of (eqb k 128) _ (or-false-of (eqb k 0) _ e .1) .1))
 
 pub writes-to : (k : ℕ) → Writes k → writesImage k ≡ true
 writes-to k w = at (writesImage k) refl
@@ -73,7 +75,8 @@ module _ (r : HandedBack) (out : List ℕ) where
   has-room w (inr (inl e)) = absurd (no-writes (r .number) (ap writesImage e) w)
   has-room w (inr (inr h)) = h
 
-  by-number : (r .number ≡ 1) ⊎ ((r .number ≡ 2) ⊎ (imageSize ≤ length out)) → (b : Bool) → writesImage (r .number) ≡ b → Returning r out (with (r .number) b)
+  by-number : (r .number ≡ 1) ⊎ ((r .number ≡ 2) ⊎ (imageSize ≤ length out)) → (b : Bool) → writesImage (r .number) ≡ b → Returning r out
+      (with (r .number) b)
   unfolding with
   by-number p true e = let w = writes-of (r .number) e in writes (has-room w p) w refl
   by-number p false e = leaves (no-writes (r .number) e) p refl
@@ -88,7 +91,8 @@ calls-return r out =
     (or-cases (eqb (r .number) 1) (eqb (r .number) 2) (λ e. tried r out (inl (eqb-true _ _ e))) (λ e. tried r out (inr (inl (eqb-true _ _ e)))))
     (λ n. cond-cases (λ (k : ℕ). Returning r out (with r out k (writesImage k))) (leb imageSize (length out))
     (λ h. tried r out (inr (inr (leb-true _ _ h))))
-    (λ h. let p = or-false-of (eqb (r .number) 1) (eqb (r .number) 2) n in no-room (leb-false _ _ h) (eqb-false _ _ (p .0)) (eqb-false _ _ (p .1)) refl))
+    (λ h. let p = or-false-of (eqb (r .number) 1) (eqb (r .number) 2) n in no-room (leb-false _ _ h) (eqb-false _ _ (p .0))
+    (eqb-false _ _ (p .1)) refl))
 
 -- an image is read where it is accepted
 pub image-ok : (image : List ℕ) → readImage image .ok ≡ isImage image

@@ -1,4 +1,5 @@
 -- Calls that keep the state: the image written is the checkpoint's bytes that came with the call, and the own part handed back.
+use Rattle.checkpoint.specs.Layout.{checkpointSize}
 use Prim.Native.Nat.{ℕ}
 use native.Mathlib.Omega.{arith}
 use mathlib.Core.Path.{_≡_, refl, sym, ap, _∙_}
@@ -10,7 +11,7 @@ use borrow.Author.Tests.{ne-eqb, lt-leb}
 use Rattle.binary.specs.Number.{Bytes, overwrite}
 use Rattle.state.specs.declared.State.{State}
 use Rattle.checkpoint.specs.Claims.{ReadState}
-use Rattle.checkpoint.proofs.Checkpoint.{checkpoint-length, checkpoint-written-back}
+use Rattle.checkpoint.proofs.RoundTrips.{checkpoint-length, checkpoint-written-back}
 use Rattle.node.specs.declared.Node.{Node}
 use Rattle.node.specs.declared.StartReply.{StartReply}
 use Rattle.node.specs.Answers.{startNumber}
@@ -18,33 +19,35 @@ use Rattle.node.specs.Start.{startOf}
 use Rattle.node.specs.Claims.{Starting, refuses, starts}
 use Rattle.node.proofs.Start.{start-comes-to}
 use Rattle.node.proofs.Numbers.{start-numbers}
-use Rattle.node_c.specs.Image.{imageSize, ownFields, fieldsOf, imageBytes, decodeImage, isImage, readImage}
+use Rattle.image.specs.Layout.{imageSize}
+use Rattle.image.specs.Image.{withOwn, imageBytes, decodeImage, isImage, readImage}
 use Rattle.node_c.specs.Calls.{HandedBack, tryRoom, writesImage, return, onImage}
 use Rattle.node_c.proofs.Calls.{writes-in-room}
 
 -- bytes that a state is read from are a checkpoint's, and its image starts with them
-pub read-size : (c : List ℕ) (s : State) → ReadState c s → length c ≡ 1108
+pub read-size : (c : List ℕ) (s : State) → ReadState c s → length c ≡ checkpointSize
 read-size c s r = ap length (sym (r .written-back)) ∙ checkpoint-length s (r .fits)
 
-state-image : (c : List ℕ) (n : Node) → ReadState c (n .state) → c ++ ownFields .encode (fieldsOf (n .own)) ≡ imageBytes n
+state-image : (c : List ℕ) (n : Node) → ReadState c (n .state) → withOwn c (n .own) ≡ imageBytes n
 unfolding imageBytes
-state-image c n r = ap (λ (l : List ℕ). l ++ ownFields .encode (fieldsOf (n .own))) (sym (r .written-back))
+state-image c n r = ap (λ (l : List ℕ). withOwn l (n .own)) (sym (r .written-back))
 
 -- what `hand_on` answers and writes, with the call's bytes c
 module _ (r : HandedBack) (c out : List ℕ) (f : writesImage (r .number) ≡ true → ReadState c (r .node .state)) where
   same-image : (room t : Bool) → writesImage (tryRoom room (r .number)) ≡ t
-      → cond t (overwrite (c ++ ownFields .encode (fieldsOf (r .node .own))) out) out ≡ cond t (overwrite (imageBytes (r .node)) out) out
+      → cond t (overwrite (withOwn c (r .node .own)) out) out ≡ cond t (overwrite (imageBytes (r .node)) out) out
   same-image room true w = ap (λ (l : List ℕ). overwrite l out) (state-image c (r .node) (f (writes-in-room room (r .number) w .1)))
   same-image room false w = refl
 
   pub handed-on : (d : List ℕ) (k : ℕ)
-      → (k ≡ tryRoom (leb imageSize (length out)) (r .number)) × (d ≡ cond (writesImage k) (overwrite (c ++ ownFields .encode (fieldsOf (r .node .own))) out) out)
+      → (k ≡ tryRoom (leb imageSize (length out)) (r .number)) × (d ≡ cond (writesImage k) (overwrite (withOwn c (r .node .own)) out) out)
       → (k ≡ return r out .number) × (d ≡ return r out .slice)
   unfolding return
   handed-on d k e = (e .0, e .1 ∙ rw (e .0) (same-image (leb imageSize (length out)) _ refl))
 
 -- a start that writes an image read its checkpoint
-starting-state : (cb sb : List ℕ) (r : StartReply) → Starting cb sb r → Bytes cb → writesImage (startNumber (r .answer)) ≡ true → ReadState cb (r .node .state)
+starting-state : (cb sb : List ℕ) (r : StartReply) → Starting cb sb r → Bytes cb → writesImage (startNumber (r .answer)) ≡ true → ReadState cb
+    (r .node .state)
 starting-state cb sb r (refuses k y e) h w =
     let n = start-numbers y in
     absurd (true≢false (sym w ∙ rw (e, ne-eqb k 0 (λ z. omega arith), ne-eqb k 128 (λ z. omega arith), lt-leb 19 k (omega arith))))

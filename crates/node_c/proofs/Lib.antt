@@ -1,6 +1,3 @@
--- The image, and the nodes that calls hand back; the laws of the code that reads and writes an image.
-pub mod Image
-pub mod WellFormed
+-- What a call for C returns.
 pub mod Calls
-mod Parts
 mod Kept

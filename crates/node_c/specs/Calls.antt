@@ -1,7 +1,7 @@
 -- The four calls for C, on images and slices: what is returned, and what the whole output slice then holds.
 use Prim.Native.Nat.{ℕ}
 use mathlib.Core.List.{List}
-use mathlib.Core.Bool.{Bool, cond, _&&_, _||_}
+use mathlib.Core.Bool.{Bool, cond, _||_}
 use lib.Dec.{eqb, leb}
 use lib.ListN.{length}
 use Rattle.binary.specs.Number.{overwrite}
@@ -9,9 +9,10 @@ use Rattle.node.specs.declared.Node.{Node}
 use Rattle.node.specs.Answers.{startNumber, deliverNumber, queryNumber, checkpointNumber}
 use Rattle.node.specs.Start.{startOf}
 use Rattle.node.specs.Deliver.{deliverOf}
-use Rattle.node.specs.Query.{queryOf}
-use Rattle.node.specs.Give.{checkpointOf, checkpointSlice}
-use Rattle.node_c.specs.Image.{imageSize, imageBytes, readImage}
+use Rattle.node.specs.Query.{addsMiss, queryOf}
+use Rattle.node.specs.Checkpoint.{checkpointOf, checkpointSlice}
+use Rattle.image.specs.Layout.{imageSize}
+use Rattle.image.specs.Image.{imageBytes, readImage}
 
 -- what a call by value hands back: a node, and its answer's number
 pub record HandedBack : Type 0 where
@@ -22,7 +23,8 @@ abbrev pub started : List ℕ → List ℕ → HandedBack
 started checkpoint start = record { node = startOf checkpoint start .node; number = startNumber (startOf checkpoint start .answer) }
 
 abbrev pub delivered : List ℕ → List ℕ → Node → HandedBack
-delivered announcement sheet n = record { node = deliverOf n announcement sheet .node; number = deliverNumber (deliverOf n announcement sheet .answer) }
+delivered announcement sheet n =
+    record { node = deliverOf n announcement sheet .node; number = deliverNumber (deliverOf n announcement sheet .answer) }
 
 abbrev pub asked : List ℕ → Node → HandedBack
 asked query n = record { node = queryOf n query .node; number = queryNumber (queryOf n query .answer) }
@@ -38,7 +40,7 @@ tryRoom room k = cond (eqb k 1 || eqb k 2) k (cond room k 22)
 
 -- "A call that starts, votes, performs, answers open or adds a miss writes a whole image to its output slice; no other does."
 abbrev pub writesImage : ℕ → Bool
-writesImage k = eqb k 0 || (eqb k 128 || (leb 19 k && leb k 21))
+writesImage k = eqb k 0 || (eqb k 128 || addsMiss k)
 
 -- the call for C over a call by value
 unfoldable pub return : HandedBack → List ℕ → Returned

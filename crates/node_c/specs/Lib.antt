@@ -1,4 +1,3 @@
--- The image, and the four calls for C.
-pub mod Image
+-- The four calls for C.
 pub mod Calls
 pub mod Claims

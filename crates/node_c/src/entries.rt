@@ -1,23 +1,26 @@
 // The four calls for C: each is the call by value on the node of an image, with its answer as a number.
 ghost use mathlib.Core.Path.{_≡_};
 ghost use mathlib.Core.Bool.{true, cond};
-ghost use mathlib.Core.List.{_++_};
 ghost use lib.Dec.{leb};
 ghost use lib.ListN.{length};
 ghost use Rattle.binary.specs.Number.{overwrite};
 ghost use Rattle.node.specs.Answers.{startNumber, deliverNumber, queryNumber, checkpointNumber};
-ghost use Rattle.node_c.specs.Image.{imageSize, ownFields, fieldsOf};
+ghost use Rattle.checkpoint.specs.Layout.{checkpointSize};
+ghost use Rattle.image.specs.Layout.{imageSize};
+ghost use Rattle.image.specs.Image.{withOwn};
 ghost use Rattle.node_c.specs.Calls.{tryRoom, writesImage, return, nodeStart, nodeDeliver, nodeQuery, nodeCheckpoint};
-use crate::is_image;
-use crate::node_in;
-use crate::write::put_image;
-use crate::write_image;
+use checkpoint::layout::CHECKPOINT_SIZE;
+use image::is_image;
+use image::layout::IMAGE_SIZE;
+use image::node_in;
+use image::put_image;
+use image::write_image;
 use node::CheckpointAnswer;
 use node::DeliverAnswer;
 use node::Node;
-use node::Own;
 use node::QueryAnswer;
 use node::StartAnswer;
+use verdicts::Own;
 
 // Each answer's number.
 fn start_number(a: StartAnswer) -> u32
@@ -76,11 +79,11 @@ fn try_room(room: bool, k: u32) -> u32
 
 // For C, what a call handed back that kept the state: the image's state is the checkpoint's bytes that came with the call.
 fn hand_on(state: &[u8], own: Own, k: u32, out: &mut [u8]) -> u32
-    requires { ⌜ (writesImage k ≡ true → length (now state) ≡ 1108) ⌝ }
+    requires { ⌜ (writesImage k ≡ true → length (now state) ≡ checkpointSize) ⌝ }
     ensures { λ r. ⌜ r ≡ tryRoom (leb imageSize (length (now (out .entry)))) k ⌝ }
-    ensures { λ r. ⌜ now (out .exit) ≡ cond (writesImage r) (overwrite (now (state .entry) ++ ownFields .encode (fieldsOf own)) (now (out .entry))) (now (out .entry)) ⌝ }
+    ensures { λ r. ⌜ now (out .exit) ≡ cond (writesImage r) (overwrite (withOwn (now (state .entry)) own) (now (out .entry))) (now (out .entry)) ⌝ }
 {
-    let number = try_room(1139 <= out.len(), k);
+    let number = try_room(IMAGE_SIZE <= out.len(), k);
     if writes_image(number) {
         put_image(state, own, out);
         return number;
@@ -93,7 +96,7 @@ fn hand_out(n: Node, out: &mut [u8]) -> u32
     ensures { λ r. ⌜ r ≡ return (record { node = n; number = 0 }) (now (out .entry)) .number ⌝ }
     ensures { λ r. ⌜ now (out .exit) ≡ return (record { node = n; number = 0 }) (now (out .entry)) .slice ⌝ }
 {
-    if out.len() < 1139 {
+    if out.len() < IMAGE_SIZE {
         return 22;
     }
     write_image(n, out);
@@ -130,7 +133,7 @@ pub extern "C" fn node_deliver(
         if k == 0 {
             return hand_out(node, out);
         }
-        return hand_on(&image[0..1108], node.own, k, out);
+        return hand_on(&image[0..CHECKPOINT_SIZE], node.own, k, out);
     }
     1
 }
@@ -145,7 +148,12 @@ pub extern "C" fn node_query(image: &[u8], query: &[u8], out: &mut [u8]) -> u32
         let r = held.query(query);
         let node = r.node;
         let answer = r.answer;
-        return hand_on(&image[0..1108], node.own, query_number(answer), out);
+        return hand_on(
+            &image[0..CHECKPOINT_SIZE],
+            node.own,
+            query_number(answer),
+            out,
+        );
     }
     1
 }

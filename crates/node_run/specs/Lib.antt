@@ -1,2 +1,3 @@
--- What node-run keeps from request to request.
-pub mod Fits
+-- What node-run holds, and what each of its turns comes to.
+pub mod Buffers
+pub mod Turns

@@ -11,8 +11,7 @@ use Rattle.lists.proofs.Every.{any-of, any-to}
 use Rattle.state.specs.declared.Seat.{Seat}
 use Rattle.state.specs.Seats.{isPresent, presentSeats, quorumOf}
 use Rattle.state.proofs.Facts.{quorums-exceed}
-use Rattle.records.specs.declared.Row.{Row}
-use Rattle.records.specs.Sheet.{names, counts, countedSeats, countedOnBoth}
+use Rattle.records.specs.Sheet.{Row, names, counts, countedSeats, countedOnBoth}
 use Rattle.records.specs.Claims.{IsCounted, CountsListedLife, CountsOnce, QuorumsOverlap}
 
 -- A seat counts exactly where it is present and some row names it under its listed life.
@@ -64,4 +63,5 @@ counts-once rows seats = counted-once rows 0 seats
 -- Two quorums share at least 1 + 2m seats.
 pub quorums-overlap : QuorumsOverlap
 unfolding countedSeats countedOnBoth presentSeats quorumOf
-quorums-overlap s a b p q = omega (arith, counted-on-both a b 0 (s .seats), quorums-exceed (count isPresent (s .seats)) (s .margin) (s .least))
+quorums-overlap s a b p q = omega
+    (arith, counted-on-both a b 0 (s .seats), quorums-exceed (count isPresent (s .seats)) (s .minima .margin) (s .minima .least))

@@ -1,4 +1,6 @@
--- What reading a record tells, and what a count of seats tells.
+-- What reading a record tells, what a count of seats tells, and that what is written is read back.
 pub mod Ranges
 pub mod Counts
-pub mod Rows
+pub mod SheetRows
+pub mod SheetsBack
+pub mod AnnouncementsBack

@@ -7,27 +7,31 @@ use mathlib.Core.List.{List}
 use lib.Dec.{eqb, ltb}
 use lib.ListN.{length, drop}
 use borrow.Author.Tests.{eqb-true, ltb-true, leb-true}
-use Rattle.lists.proofs.Tests.{cond-cases}
+use Rattle.lists.proofs.Tests.{cond-cases, clash}
 use Rattle.binary.specs.Number.{Bytes, field, byteAt, isFramed, isRecord}
 use Rattle.binary.proofs.Number.{number-fits, bytes-drop}
 use Rattle.binary.proofs.Frames.{framed-length}
+use Rattle.state.specs.Limits.{seatCount}
+use Rattle.state.specs.Kinds.{kindPropose, kindCancel, kindPresents, kindCertify, kindMinima, kindRemove, kindRejoin, kindGrant, kindEnd}
 use Rattle.records.specs.declared.Action.{Action}
 use Rattle.records.specs.declared.Announcement.{Announcement}
 use Rattle.records.specs.declared.AnnouncementRead.{AnnouncementRead}
 use Rattle.records.specs.declared.AnnouncementRead.the-variants as A
 use Rattle.records.specs.declared.StartRead.{StartRead}
 use Rattle.records.specs.declared.StartRead.the-variants as S
-use Rattle.records.specs.Announcement.{announcing, readPropose, readCancel, readPresents, readCertify, readMinima, readRemove, readRejoin, readGrant, readEnd, readKind, readAnnouncement}
+use Rattle.records.specs.Layout.{announcementLength, announcementSize, startLength, kindStart}
+use Rattle.records.specs.Announcement.{announcing, readPropose, readCancel, readPresents, readCertify, readMinima}
+use Rattle.records.specs.Announcement.{readRemove, readRejoin, readGrant, readEnd, readKind, readAnnouncement}
 use Rattle.records.specs.StartQuery.{readStart}
 use Rattle.records.specs.Claims.{ActionInRange, AnnouncementInRange, AnnouncementsInRange, StartsInRange}
 
 -- The two claims, of what reading gives. Of malformed bytes they say nothing.
 InRange : List ℕ → AnnouncementRead → Type 0
-InRange b (A.Read a) = (length b ≡ 24) × AnnouncementInRange a
+InRange b (A.Read a) = (length b ≡ announcementSize) × AnnouncementInRange a
 InRange b A.Malformed = Unit {0}
 
 StartInRange : StartRead → Type 0
-StartInRange (S.Read x) = (x .seat < 32) × (x .life < 2 ^ 32)
+StartInRange (S.Read x) = (x .seat < seatCount) × (x .life < 2 ^ 32)
 StartInRange S.Malformed = Unit {0}
 
 module _ (b : List ℕ) (h : Bytes b) where
@@ -35,7 +39,7 @@ module _ (b : List ℕ) (h : Bytes b) where
   below : (w at : ℕ) → field w at b < 256 ^ w
   below w at = number-fits w (drop at b) (bytes-drop at b h)
 
-  module _ (n : length b ≡ 24) where
+  module _ (n : length b ≡ announcementSize) where
     -- An announcement is within its ranges where its action is.
     announced : (ok : Bool) (x : Action) → (ok ≡ true → ActionInRange x) → InRange b (announcing b ok x)
     unfolding announcing InRange
@@ -60,7 +64,7 @@ module _ (b : List ℕ) (h : Bytes b) where
 
     minima : InRange b (readMinima b)
     unfolding readMinima
-    minima = announced _ _ (λ e. let t = simp and-eq-true-iff at e in omega (arith, leb-true))
+    minima = announced _ _ (λ e. let t = simp and-eq-true-iff at e in t .1)
 
     remove : InRange b (readRemove b)
     unfolding readRemove
@@ -81,32 +85,34 @@ module _ (b : List ℕ) (h : Bytes b) where
     kind-in-range : (kind : ℕ) → InRange b (readKind kind b)
     unfolding readKind InRange
     kind-in-range kind =
-        cond-cases (InRange b) (eqb kind 1) (λ _. propose)
-        (λ _. cond-cases (InRange b) (eqb kind 2) (λ _. cancel)
-        (λ _. cond-cases (InRange b) (eqb kind 3) (λ _. presents)
-        (λ _. cond-cases (InRange b) (eqb kind 4) (λ _. certify)
-        (λ _. cond-cases (InRange b) (eqb kind 5) (λ _. minima)
-        (λ _. cond-cases (InRange b) (eqb kind 6) (λ _. remove)
-        (λ _. cond-cases (InRange b) (eqb kind 7) (λ _. rejoin)
-        (λ _. cond-cases (InRange b) (eqb kind 8) (λ _. grant)
-        (λ _. cond-cases (InRange b) (eqb kind 9) (λ _. end)
+        cond-cases (InRange b) (eqb kind kindPropose) (λ _. propose)
+        (λ _. cond-cases (InRange b) (eqb kind kindCancel) (λ _. cancel)
+        (λ _. cond-cases (InRange b) (eqb kind kindPresents) (λ _. presents)
+        (λ _. cond-cases (InRange b) (eqb kind kindCertify) (λ _. certify)
+        (λ _. cond-cases (InRange b) (eqb kind kindMinima) (λ _. minima)
+        (λ _. cond-cases (InRange b) (eqb kind kindRemove) (λ _. remove)
+        (λ _. cond-cases (InRange b) (eqb kind kindRejoin) (λ _. rejoin)
+        (λ _. cond-cases (InRange b) (eqb kind kindGrant) (λ _. grant)
+        (λ _. cond-cases (InRange b) (eqb kind kindEnd) (λ _. end)
         (λ _. tt)))))))))
 
 -- An announcement that is read is 24 bytes long.
-pub announcement-size : (b : List ℕ) (a : Announcement) → readAnnouncement b ≡ A.Read a → length b ≡ 24
+pub announcement-size : (b : List ℕ) (a : Announcement) → readAnnouncement b ≡ A.Read a → length b ≡ announcementSize
 unfolding readAnnouncement
 announcement-size b a =
-    cond-cases (λ (r : AnnouncementRead). r ≡ A.Read a → length b ≡ 24) (isFramed 22 b) (λ f e. framed-length 22 b f)
-    (λ f e. absurd (let z : _≡_ {A = ℕ} 0 1 = cc in omega arith))
+    cond-cases (λ (r : AnnouncementRead). r ≡ A.Read a → length b ≡ announcementSize) (isFramed announcementLength b)
+    (λ f e. framed-length announcementLength b f) (λ f e. clash (cc))
 
 pub announcements-in-range : AnnouncementsInRange
 unfolding readAnnouncement InRange
 announcements-in-range b a h e =
     subst (InRange b) e
-    (cond-cases (InRange b) (isFramed 22 b) (λ f. let t = simp and-eq-true-iff at f in kind-in-range b h (eqb-true _ _ (t .0)) (field 2 2 b)) (λ f. tt))
+    (cond-cases (InRange b) (isFramed announcementLength b)
+    (λ f. let t = simp and-eq-true-iff at f in kind-in-range b h (eqb-true _ _ (t .0)) (field 2 2 b)) (λ f. tt))
 
 pub starts-in-range : StartsInRange
 unfolding readStart StartInRange
 starts-in-range b x h e =
     subst StartInRange e
-    (cond-cases StartInRange (isRecord 7 19 b && ltb (byteAt 4 b) 32) (λ f. let t = simp and-eq-true-iff at f in (ltb-true _ _ (t .1), below b h 4 5)) (λ f. tt))
+    (cond-cases StartInRange (isRecord startLength kindStart b && ltb (byteAt 4 b) seatCount)
+    (λ f. let t = simp and-eq-true-iff at f in (ltb-true _ _ (t .1), below b h 4 5)) (λ f. tt))

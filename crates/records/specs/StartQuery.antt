@@ -2,20 +2,23 @@
 use Prim.Native.Nat.{ℕ}
 use mathlib.Core.List.{List}
 use mathlib.Core.Bool.{cond, _&&_}
-use lib.Dec.{ltb, leb}
+use lib.Dec.{ltb}
 use Rattle.binary.specs.Number.{byteAt, field, isRecord}
+use Rattle.state.specs.Limits.{seatCount, rightCount}
 use Rattle.state.specs.Time.{day}
 use Rattle.records.specs.declared.StartRead.{StartRead}
 use Rattle.records.specs.declared.StartRead.the-variants as S
 use Rattle.records.specs.declared.QueryRead.{QueryRead}
 use Rattle.records.specs.declared.QueryRead.the-variants as Q
+use Rattle.records.specs.Layout.{kindStart, startLength, kindQuery, queryLength}
 
 unfoldable pub readStart : List ℕ → StartRead
 readStart b =
     let seat = byteAt 4 b in
-    cond (isRecord 7 19 b && ltb seat 32) (S.Read (record { seat = seat; life = field 4 5 b })) S.Malformed
+    cond (isRecord startLength kindStart b && ltb seat seatCount) (S.Read (record { seat = seat; life = field 4 5 b })) S.Malformed
 
 unfoldable pub readQuery : List ℕ → QueryRead
 readQuery b =
     let right = byteAt 12 b in
-    cond (isRecord 11 20 b && leb right 15) (Q.Read (record { login = field 4 4 b; day = day (field 4 8 b); right = right })) Q.Malformed
+    cond (isRecord queryLength kindQuery b && ltb right rightCount)
+    (Q.Read (record { login = field 4 4 b; day = day (field 4 8 b); right = right })) Q.Malformed

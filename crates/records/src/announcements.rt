@@ -2,36 +2,36 @@
 use super::Action;
 use super::Announcement;
 use super::AnnouncementRead;
+use super::layout::ANNOUNCEMENT_LENGTH;
 use binary::is_framed;
+use binary::is_zero_from;
 use binary::u16_at;
 use binary::u32_at;
 use binary::u64_at;
 use state::Cycle;
 use state::Day;
 use state::Login;
-use state::subjects::is_subject;
+use state::Minima;
+use state::Subject;
+use state::kinds::CANCEL;
+use state::kinds::CERTIFY;
+use state::kinds::END;
+use state::kinds::GRANT;
+use state::kinds::MINIMA;
+use state::kinds::PRESENTS;
+use state::kinds::PROPOSE;
+use state::kinds::REJOIN;
+use state::kinds::REMOVE;
+use state::limits::SEAT_NUMBERS;
 ghost use mathlib.Core.Path.{_≡_};
 ghost use Prim.Native.Nat.{_≤_};
 ghost use lib.ListN.{length};
+ghost use Rattle.records.specs.Layout.{announcementSize};
 ghost use Rattle.records.specs.Announcement as spec;
-
-// Every byte from an index on is zero.
-pub fn is_zero_from(at: usize, b: &[u8]) -> bool
-    ensures { λ r. ⌜ r ≡ spec.isZeroFrom at (now (b .entry)) ⌝ }
-{
-    let mut i = at;
-    while i < b.len() {
-        if b[i] != 0 {
-            return false;
-        }
-        i += 1;
-    }
-    true
-}
 
 // The announcement of this action, with the record's cycle and day, where its arguments are well formed.
 fn announcing(b: &[u8], ok: bool, action: Action) -> AnnouncementRead
-    requires { ⌜ 24 ≤ length (now b) ⌝ }
+    requires { ⌜ announcementSize ≤ length (now b) ⌝ }
     ensures { λ r. ⌜ r ≡ spec.announcing (now (b .entry)) ok action ⌝ }
 {
     if ok {
@@ -47,17 +47,19 @@ fn announcing(b: &[u8], ok: bool, action: Action) -> AnnouncementRead
 
 // One function for each kind: its arguments, their ranges, and that the unused bytes are zero.
 fn read_propose(b: &[u8]) -> AnnouncementRead
-    requires { ⌜ 24 ≤ length (now b) ⌝ }
+    requires { ⌜ announcementSize ≤ length (now b) ⌝ }
     ensures { λ r. ⌜ r ≡ spec.readPropose (now (b .entry)) ⌝ }
 {
-    let kind = u16_at(b, 12);
-    let arguments = u64_at(b, 14);
-    let ok = is_zero_from(22, b) & is_subject(kind, arguments);
-    announcing(b, ok, Action::Propose { kind, arguments })
+    let subject = Subject {
+        kind: u16_at(b, 12),
+        arguments: u64_at(b, 14),
+    };
+    let ok = is_zero_from(22, b) & subject.is_well_formed();
+    announcing(b, ok, Action::Propose { subject })
 }
 
 fn read_cancel(b: &[u8]) -> AnnouncementRead
-    requires { ⌜ 24 ≤ length (now b) ⌝ }
+    requires { ⌜ announcementSize ≤ length (now b) ⌝ }
     ensures { λ r. ⌜ r ≡ spec.readCancel (now (b .entry)) ⌝ }
 {
     let cycle = Cycle(u32_at(b, 12));
@@ -65,12 +67,12 @@ fn read_cancel(b: &[u8]) -> AnnouncementRead
 }
 
 fn read_presents(b: &[u8]) -> AnnouncementRead
-    requires { ⌜ 24 ≤ length (now b) ⌝ }
+    requires { ⌜ announcementSize ≤ length (now b) ⌝ }
     ensures { λ r. ⌜ r ≡ spec.readPresents (now (b .entry)) ⌝ }
 {
     let seat = b[12];
     let flag = b[13];
-    let ok = is_zero_from(14, b) & ((seat < 32) & (flag <= 1));
+    let ok = is_zero_from(14, b) & ((seat < SEAT_NUMBERS) & (flag <= 1));
     announcing(
         b,
         ok,
@@ -82,57 +84,49 @@ fn read_presents(b: &[u8]) -> AnnouncementRead
 }
 
 fn read_certify(b: &[u8]) -> AnnouncementRead
-    requires { ⌜ 24 ≤ length (now b) ⌝ }
+    requires { ⌜ announcementSize ≤ length (now b) ⌝ }
     ensures { λ r. ⌜ r ≡ spec.readCertify (now (b .entry)) ⌝ }
 {
     let seat = b[12];
     let life = u32_at(b, 13);
-    let ok = is_zero_from(17, b) & ((seat < 32) & (1 <= life));
+    let ok = is_zero_from(17, b) & ((seat < SEAT_NUMBERS) & (1 <= life));
     announcing(b, ok, Action::Certify { seat, life })
 }
 
 fn read_minima(b: &[u8]) -> AnnouncementRead
-    requires { ⌜ 24 ≤ length (now b) ⌝ }
+    requires { ⌜ announcementSize ≤ length (now b) ⌝ }
     ensures { λ r. ⌜ r ≡ spec.readMinima (now (b .entry)) ⌝ }
 {
-    let margin = b[12];
-    let least = b[13];
-    let silence = u16_at(b, 14);
-    let ranges = (margin <= 7)
-        & ((1 <= least) & ((least <= 32) & ((1 <= silence) & (silence <= 365))));
-    let ok = is_zero_from(16, b) & ranges;
-    announcing(
-        b,
-        ok,
-        Action::Minima {
-            margin,
-            least,
-            silence,
-        },
-    )
+    let minima = Minima {
+        margin: b[12],
+        least: b[13],
+        silence: u16_at(b, 14),
+    };
+    let ok = is_zero_from(16, b) & minima.is_in_range();
+    announcing(b, ok, Action::Minima { minima })
 }
 
 fn read_remove(b: &[u8]) -> AnnouncementRead
-    requires { ⌜ 24 ≤ length (now b) ⌝ }
+    requires { ⌜ announcementSize ≤ length (now b) ⌝ }
     ensures { λ r. ⌜ r ≡ spec.readRemove (now (b .entry)) ⌝ }
 {
     let seat = b[12];
-    let ok = is_zero_from(13, b) & (seat < 32);
+    let ok = is_zero_from(13, b) & (seat < SEAT_NUMBERS);
     announcing(b, ok, Action::Remove { seat })
 }
 
 fn read_rejoin(b: &[u8]) -> AnnouncementRead
-    requires { ⌜ 24 ≤ length (now b) ⌝ }
+    requires { ⌜ announcementSize ≤ length (now b) ⌝ }
     ensures { λ r. ⌜ r ≡ spec.readRejoin (now (b .entry)) ⌝ }
 {
     let seat = b[12];
     let life = u32_at(b, 13);
-    let ok = is_zero_from(17, b) & (seat < 32);
+    let ok = is_zero_from(17, b) & (seat < SEAT_NUMBERS);
     announcing(b, ok, Action::Rejoin { seat, life })
 }
 
 fn read_grant(b: &[u8]) -> AnnouncementRead
-    requires { ⌜ 24 ≤ length (now b) ⌝ }
+    requires { ⌜ announcementSize ≤ length (now b) ⌝ }
     ensures { λ r. ⌜ r ≡ spec.readGrant (now (b .entry)) ⌝ }
 {
     let login = u32_at(b, 12);
@@ -144,28 +138,28 @@ fn read_grant(b: &[u8]) -> AnnouncementRead
 }
 
 fn read_end(b: &[u8]) -> AnnouncementRead
-    requires { ⌜ 24 ≤ length (now b) ⌝ }
+    requires { ⌜ announcementSize ≤ length (now b) ⌝ }
     ensures { λ r. ⌜ r ≡ spec.readEnd (now (b .entry)) ⌝ }
 {
     let login = u32_at(b, 12);
     announcing(b, is_zero_from(16, b), Action::End { login })
 }
 
-// One decision on the kind number.
+// The arguments of each kind; other kinds are malformed.
 fn read_kind(kind: u16, b: &[u8]) -> AnnouncementRead
-    requires { ⌜ 24 ≤ length (now b) ⌝ }
+    requires { ⌜ announcementSize ≤ length (now b) ⌝ }
     ensures { λ r. ⌜ r ≡ spec.readKind kind (now (b .entry)) ⌝ }
 {
     match kind {
-        1 => read_propose(b),
-        2 => read_cancel(b),
-        3 => read_presents(b),
-        4 => read_certify(b),
-        5 => read_minima(b),
-        6 => read_remove(b),
-        7 => read_rejoin(b),
-        8 => read_grant(b),
-        9 => read_end(b),
+        PROPOSE => read_propose(b),
+        CANCEL => read_cancel(b),
+        PRESENTS => read_presents(b),
+        CERTIFY => read_certify(b),
+        MINIMA => read_minima(b),
+        REMOVE => read_remove(b),
+        REJOIN => read_rejoin(b),
+        GRANT => read_grant(b),
+        END => read_end(b),
         _ => AnnouncementRead::Malformed,
     }
 }
@@ -174,7 +168,7 @@ fn read_kind(kind: u16, b: &[u8]) -> AnnouncementRead
 pub fn read_announcement(b: &[u8]) -> AnnouncementRead
     ensures { λ r. ⌜ r ≡ spec.readAnnouncement (now (b .entry)) ⌝ }
 {
-    if is_framed(b, 22) {
+    if is_framed(b, ANNOUNCEMENT_LENGTH) {
         read_kind(u16_at(b, 2), b)
     } else {
         AnnouncementRead::Malformed

@@ -2,12 +2,15 @@
 use state::Cycle;
 use state::Day;
 use state::Login;
+use state::Minima;
+use state::Subject;
 
+mod actions;
 mod announcements;
+pub mod layout;
 mod sheets;
 mod start_query;
 
-pub use announcements::is_zero_from;
 pub use announcements::read_announcement;
 pub use sheets::counted_seats;
 pub use sheets::is_sheet;
@@ -16,13 +19,12 @@ pub use start_query::read_start;
 
 // The nine actions, one case per kind, 1 to 9, with its arguments.
 pub enum Action {
-    // The subject: the kind of the proposed action, and its argument bytes as one little-endian number.
-    Propose { kind: u16, arguments: u64 },
+    Propose { subject: Subject },
     Cancel { cycle: Cycle },
     // To present where the flag is set, else back to certified.
     Presents { seat: u8, flag: bool },
     Certify { seat: u8, life: u32 },
-    Minima { margin: u8, least: u8, silence: u16 },
+    Minima { minima: Minima },
     Remove { seat: u8 },
     Rejoin { seat: u8, life: u32 },
     Grant { row: Login },
@@ -39,12 +41,6 @@ pub struct Announcement {
 pub enum AnnouncementRead {
     Read(Announcement),
     Malformed,
-}
-
-// A row of a sheet: a vote of that seat under that life, whose signature was checked.
-pub struct Row {
-    pub seat: u8,
-    pub life: u32,
 }
 
 // Which seat a node takes, and under which life.

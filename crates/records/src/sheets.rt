@@ -1,27 +1,38 @@
-// Reading a sheet where its bytes lie: row i starts at index 7 + 5 i.
+// Reading a sheet where its bytes lie: its rows, one after the other, behind its head.
+use super::layout::MOST_ROWS;
+use super::layout::ROW_LENGTH;
+use super::layout::ROW_SIZE;
+use super::layout::SHEET;
+use super::layout::SHEET_HEAD;
+use super::layout::SHEET_LENGTH;
 use binary::is_record;
 use binary::size;
 use binary::u32_at;
 use state::Seat;
+use state::limits::SEAT_NUMBERS;
+use state::limits::SEATS;
+use state::seats::PRESENT;
 ghost use mathlib.Core.Path.{_≡_};
 ghost use mathlib.Core.Bool.{true, false, cond};
 ghost use Prim.Native.Nat.{ℕ, _+_, _*_, _≤_};
 ghost use lib.Dec.{ltb};
 ghost use lib.ListN.{length, getD};
 ghost use Rattle.lists.specs.Fold.{all, count};
+ghost use Rattle.state.specs.Limits.{seatCount};
 ghost use Rattle.state.specs.Seats.{seatAt};
 ghost use Rattle.binary.specs.Number.{byteAt};
+ghost use Rattle.records.specs.Layout.{sheetHead, rowSize};
 ghost use Rattle.records.specs.Sheet.{rowsOf, isSheet, counts, countedSeats};
 
 // The seat of every row is below 32.
 fn are_rows(b: &[u8]) -> bool
-    requires { ⌜ 7 + 5 * byteAt 6 (now b) ≤ length (now b) ⌝ }
-    ensures { λ r. ⌜ r ≡ all (λ x. ltb (x .seat) 32) (rowsOf (now (b .entry))) ⌝ }
+    requires { ⌜ sheetHead + rowSize * byteAt 6 (now b) ≤ length (now b) ⌝ }
+    ensures { λ r. ⌜ r ≡ all (λ x. ltb (x .seat) seatCount) (rowsOf (now (b .entry))) ⌝ }
 {
     let n = size(b[6]);
     let mut i: usize = 0;
     while i < n {
-        if b[7 + 5 * i] >= 32 {
+        if b[SHEET_HEAD + ROW_SIZE * i] >= SEAT_NUMBERS {
             return false;
         }
         i += 1;
@@ -33,14 +44,14 @@ fn are_rows(b: &[u8]) -> bool
 pub fn is_sheet(b: &[u8]) -> bool
     ensures { λ r. ⌜ r ≡ isSheet (now (b .entry)) ⌝ }
 {
-    if b.len() < 7 {
+    if b.len() < SHEET_HEAD {
         return false;
     }
     let n = b[6];
-    if n > 64 {
+    if n > MOST_ROWS {
         return false;
     }
-    if is_record(b, 5 + 5 * (n as u16), 18) {
+    if is_record(b, SHEET_LENGTH + ROW_LENGTH * (n as u16), SHEET) {
         are_rows(b)
     } else {
         false
@@ -48,19 +59,19 @@ pub fn is_sheet(b: &[u8]) -> bool
 }
 
 // Which seats count on the rows: one pass, in which a row marks the seat that it names.
-fn seen_seats(b: &[u8], seats: [Seat; 32]) -> [bool; 32]
+fn seen_seats(b: &[u8], seats: [Seat; SEATS]) -> [bool; SEATS]
     requires { ⌜ isSheet (now b) ≡ true ⌝ }
     ensures { λ r. ⌜ ((k : ℕ) → getD r k false ≡ counts (rowsOf (now (b .entry))) k (seatAt k seats)) ⌝ }
 {
     let n = size(b[6]);
-    let mut seen = [false; 32];
+    let mut seen = [false; SEATS];
     let mut i: usize = 0;
     while i < n {
-        let at = 7 + 5 * i;
+        let at = SHEET_HEAD + ROW_SIZE * i;
         let k = size(b[at]);
         let life = u32_at(b, at + 1);
         let seat = seats[k];
-        let hit = (seat.standing == 2) & (life == seat.life);
+        let hit = (seat.standing == PRESENT) & (life == seat.life);
         seen[k] = seen[k] | hit;
         i += 1;
     }
@@ -75,12 +86,12 @@ fn one_if(b: bool) -> u8
 }
 
 // The number of true entries.
-fn count_seen(seen: [bool; 32]) -> u8
+fn count_seen(seen: [bool; SEATS]) -> u8
     ensures { λ r. ⌜ r ≡ count (λ x. x) seen ⌝ }
 {
     let mut n: u8 = 0;
     let mut i: usize = 0;
-    while i < 32 {
+    while i < SEATS {
         n += one_if(seen[i]);
         i += 1;
     }
@@ -88,7 +99,7 @@ fn count_seen(seen: [bool; 32]) -> u8
 }
 
 // The number of seats that count on the rows, each once.
-pub fn counted_seats(b: &[u8], seats: [Seat; 32]) -> u8
+pub fn counted_seats(b: &[u8], seats: [Seat; SEATS]) -> u8
     requires { ⌜ isSheet (now b) ≡ true ⌝ }
     ensures { λ r. ⌜ r ≡ countedSeats (rowsOf (now (b .entry))) seats ⌝ }
 {

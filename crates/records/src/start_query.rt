@@ -3,9 +3,15 @@ use super::Query;
 use super::QueryRead;
 use super::Start;
 use super::StartRead;
+use super::layout::QUERY;
+use super::layout::QUERY_LENGTH;
+use super::layout::START;
+use super::layout::START_LENGTH;
 use binary::is_record;
 use binary::u32_at;
 use state::Day;
+use state::limits::RIGHTS;
+use state::limits::SEAT_NUMBERS;
 ghost use mathlib.Core.Path.{_≡_};
 ghost use Rattle.records.specs.StartQuery.{readStart, readQuery};
 
@@ -13,11 +19,11 @@ ghost use Rattle.records.specs.StartQuery.{readStart, readQuery};
 pub fn read_start(b: &[u8]) -> StartRead
     ensures { λ r. ⌜ r ≡ readStart (now (b .entry)) ⌝ }
 {
-    if !is_record(b, 7, 19) {
+    if !is_record(b, START_LENGTH, START) {
         return StartRead::Malformed;
     }
     let seat = b[4];
-    if seat < 32 {
+    if seat < SEAT_NUMBERS {
         StartRead::Read(Start {
             seat,
             life: u32_at(b, 5),
@@ -31,11 +37,11 @@ pub fn read_start(b: &[u8]) -> StartRead
 pub fn read_query(b: &[u8]) -> QueryRead
     ensures { λ r. ⌜ r ≡ readQuery (now (b .entry)) ⌝ }
 {
-    if !is_record(b, 11, 20) {
+    if !is_record(b, QUERY_LENGTH, QUERY) {
         return QueryRead::Malformed;
     }
     let right = b[12];
-    if right <= 15 {
+    if right < RIGHTS {
         QueryRead::Read(Query {
             login: u32_at(b, 4),
             day: Day(u32_at(b, 8)),

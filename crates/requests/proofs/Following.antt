@@ -9,12 +9,14 @@ use lib.ListN.{length, drop, length-append, length-drop}
 use lib.Seq.{take-append-le, drop-append-le}
 use borrow.Author.Tests.{le-leb}
 use Rattle.binary.specs.Number.{fromBytes, field}
+use Rattle.records.specs.Layout.{kindSheet, kindStart, kindQuery}
+use Rattle.checkpoint.specs.Layout.{kindCheckpoint}
 use Rattle.node.specs.declared.Node.{Node}
 use Rattle.lists.proofs.Tests.{cond-cases}
 use Rattle.requests.specs.declared.Frame.{Frame}
 use Rattle.requests.specs.declared.Frame.the-variants.{Record, Cut}
 use Rattle.requests.specs.declared.Step.{Step}
-use Rattle.requests.specs.Framing.{sizeOf, kindOf, isAnnouncement, leastSize, hasSecond, holdsRecord, frameOf, holdsRequest}
+use Rattle.requests.specs.Framing.{recordHead, sizeOf, kindOf, isAnnouncement, leastSize, hasSecond, holdsRecord, frameOf, holdsRequest}
 use Rattle.requests.specs.Requests.{isNone, cuts, withSecond, stepStart, stepDeliver, stepQuery, placed, stepOf}
 use Rattle.requests.specs.Claims.{MoreInput}
 use Rattle.requests.proofs.Frames.{record-heads, record-fits, frame-fits}
@@ -41,7 +43,8 @@ module _ (c : List ℕ) where
   holds-front b h =
       let k = record-heads b h in
       let m = record-fits b h in
-      rw (size-front b h, length-append b c, le-leb 4 (length b + length c) (omega arith), le-leb (sizeOf b) (length b + length c) (omega arith)) refl
+      let all = length b + length c in
+      rw (size-front b h, length-append b c, le-leb recordHead all (omega arith), le-leb (sizeOf b) all (omega arith)) refl
 
   frame-front : (b : List ℕ) → holdsRecord b ≡ true → frameOf (b ++ c) ≡ frameOf b
   unfolding frameOf
@@ -49,7 +52,8 @@ module _ (c : List ℕ) where
       let k = record-heads b h in
       rw (holds-front b h, h, size-front b h, field-front 2 2 b (omega arith)) refl
 
-  second-front : (n : Node) (kind : ℕ) (f : ℕ → List ℕ → Step) (b : List ℕ) → holdsRecord b ≡ true → withSecond n kind f (b ++ c) (frameOf (b ++ c)) ≡ withSecond n kind f b (frameOf b)
+  second-front : (n : Node) (kind : ℕ) (f : ℕ → List ℕ → Step) (b : List ℕ) → holdsRecord b ≡ true
+      → withSecond n kind f (b ++ c) (frameOf (b ++ c)) ≡ withSecond n kind f b (frameOf b)
   second-front n kind f b h = rw (frame-front b h) (go (frameOf b) refl)
     where
       go : (x : Frame) → frameOf b ≡ x → withSecond n kind f (b ++ c) x ≡ withSecond n kind f b x
@@ -59,11 +63,11 @@ module _ (c : List ℕ) where
   module _ (n : Node) (b : List ℕ) (size : ℕ) (fits : size ≤ length b) where
     start-front : holdsRecord (drop size b) ≡ true → stepStart n size (b ++ c) ≡ stepStart n size b
     unfolding stepStart
-    start-front h = rw (take-append-le size b c fits, drop-append-le size b c fits) (second-front n 16 _ (drop size b) h)
+    start-front h = rw (take-append-le size b c fits, drop-append-le size b c fits) (second-front n kindCheckpoint _ (drop size b) h)
 
     deliver-front : holdsRecord (drop size b) ≡ true → stepDeliver n size (b ++ c) ≡ stepDeliver n size b
     unfolding stepDeliver
-    deliver-front h = rw (take-append-le size b c fits, drop-append-le size b c fits) (second-front n 18 _ (drop size b) h)
+    deliver-front h = rw (take-append-le size b c fits, drop-append-le size b c fits) (second-front n kindSheet _ (drop size b) h)
 
     query-front : stepQuery n size (b ++ c) ≡ stepQuery n size b
     unfolding stepQuery
@@ -76,10 +80,10 @@ module _ (c : List ℕ) where
       let fits = record-fits b (t .0) in
       let second : hasSecond (kindOf b) ≡ true → holdsRecord (drop (sizeOf b) b) ≡ true = λ s. rw s at (t .1) in
       cond-cases (λ (x : Frame). placed n (b ++ c) x ≡ placed n b x) (holdsRecord b && leb (leastSize (kindOf b)) (sizeOf b))
-      (λ _. cond-both (eqb (kindOf b) 19)
+      (λ _. cond-both (eqb (kindOf b) kindStart)
       (λ e. start-front n b (sizeOf b) fits (second (rw e (or-true (isAnnouncement (kindOf b))))))
       (λ _. cond-both (isNone n) (λ _. refl)
-      (λ _. cond-both (eqb (kindOf b) 20) (λ _. query-front n b (sizeOf b) fits)
+      (λ _. cond-both (eqb (kindOf b) kindQuery) (λ _. query-front n b (sizeOf b) fits)
       (λ _. cond-both (isAnnouncement (kindOf b)) (λ e. deliver-front n b (sizeOf b) fits (second (rw e refl))) (λ _. refl)))))
       (λ _. refl)
 

@@ -1,15 +1,14 @@
 -- What started is a node, and no step loses one.
-use Prim.Native.Nat.{ℕ, _+_, _≤_}
+use Prim.Native.Nat.{ℕ, _+_, _<_}
 use native.Mathlib.Omega.{arith}
-use mathlib.Core.Path.{_≡_, refl, sym, _∙_}
+use mathlib.Core.Path.{_≡_, refl}
 use mathlib.Core.Bool.{true, false, and-eq-true-iff}
 use mathlib.Core.List.{List}
-use lib.Dec.{eqb}
-use borrow.Author.Tests.{leb-true, ne-eqb}
-use Rattle.lists.proofs.Tests.{cond-cases}
+use borrow.Author.Tests.{ltb-true, ne-eqb}
+use Rattle.lists.proofs.Tests.{cond-cases, clash}
 use Rattle.state.specs.declared.State.{State}
 use Rattle.state.specs.declared.Cycle.{Cycle}
-use Rattle.state.specs.Time.{isBeforeCycle, lastCycle}
+use Rattle.state.specs.Time.{cycle, isBeforeCycle, isSameCycle, lastCycle}
 use Rattle.state.specs.WellFormed.{isWellFormed}
 use Rattle.checkpoint.specs.Checkpoint.{decodeCheckpoint, isCheckpoint, readCheckpoint}
 use Rattle.records.specs.declared.Announcement.{Announcement}
@@ -34,11 +33,11 @@ use Rattle.requests.proofs.Outcomes.{step-cases}
 use Rattle.requests.specs.Claims.{KeepsNode, StartsNode}
 
 -- a well-formed state has a cycle
-cycle-held : (s : State) → isWellFormed s ≡ true → eqb (s .cycle .0) 0 ≡ false
+cycle-held : (s : State) → isWellFormed s ≡ true → isSameCycle (s .cycle) (cycle 0) ≡ false
 unfolding isWellFormed
 cycle-held s h =
     let t = simp and-eq-true-iff at h in
-    let k : 1 ≤ s .cycle .0 = leb-true _ _ (t .0) in
+    let k : 0 < s .cycle .0 = ltb-true _ _ (t .0) in
     ne-eqb (s .cycle .0) 0 (λ e. absurd (omega arith))
 
 decoded-held : (cb : List ℕ) → isCheckpoint cb ≡ true → isWellFormed (decodeCheckpoint cb .state) ≡ true
@@ -49,10 +48,12 @@ checkpoint-held : (cb : List ℕ) → isCheckpoint cb ≡ true → isWellFormed 
 unfolding readCheckpoint
 checkpoint-held cb h = rw h (decoded-held cb h)
 
-performed-held : (n : Node) (a : Announcement) → isNone n ≡ false → eqb (perform (n .state) a .cycle .0) 0 ≡ false
+performed-held : (n : Node) (a : Announcement) → isNone n ≡ false → isSameCycle (perform (n .state) a .cycle) (cycle 0) ≡ false
 unfolding perform
 performed-held n a h =
-    cond-cases (λ (c : Cycle). eqb (c .0) 0 ≡ false) (isBeforeCycle (n .state .cycle) lastCycle) (λ _. ne-eqb (n .state .cycle .0 + 1) 0 (λ e. absurd (omega arith))) (λ _. h)
+    cond-cases (λ (c : Cycle). isSameCycle c (cycle 0) ≡ false) (isBeforeCycle (n .state .cycle) lastCycle)
+    (λ _. ne-eqb (n .state .cycle .0 + 1) 0 (λ e. absurd (omega arith)))
+    (λ _. h)
 
 -- the node that each call hands back
 deliver-held : (n : Node) (ab sb : List ℕ) → isNone n ≡ false → isNone (deliverOf n ab sb .node) ≡ false
@@ -71,14 +72,11 @@ query-held n qb h = go (query-comes-to n qb)
     go (Asking.misses k l m w e) = rw e h
     go (Asking.opens q r w e) = rw e h
 
-refused-not-started : {k : ℕ} → S.Refused k ≡ S.Started → ⊥
-refused-not-started e = let z : _≡_ {A = ℕ} 0 1 = cc in omega arith
-
 start-held : (cb sb : List ℕ) → startOf cb sb .answer ≡ S.Started → isNone (startOf cb sb .node) ≡ false
 start-held cb sb h = go (start-comes-to cb sb)
   where
     go : Starting cb sb (startOf cb sb) → isNone (startOf cb sb .node) ≡ false
-    go (Starting.refuses k w e) = absurd (refused-not-started (sym e ∙ h))
+    go (Starting.refuses k w e) = clash (cc)
     go (Starting.starts x r o a l e) = rw e (cycle-held (readCheckpoint cb .state) (checkpoint-held cb o))
 
 pub keeps-node : KeepsNode
@@ -101,18 +99,19 @@ starts-node n b =
     (λ used qb _. asked (queryOf n qb .node) used (queryOf n qb .answer))
   where
     other : (m : Node) (k : ℕ) → Answer.No k ≡ Answer.Started → isNone m ≡ false
-    other m k e = absurd (let z : _≡_ {A = ℕ} 0 1 = cc in omega arith)
+    other m k e = clash (cc)
 
     started : (used : ℕ) (cb sb : List ℕ) (a : StartAnswer) → startOf cb sb .answer ≡ a
         → let s = startStep n used (startOf cb sb .node) a in s .answer ≡ Answer.Started → isNone (s .node) ≡ false
     started used cb sb S.Started e f = start-held cb sb e
     started used cb sb (S.Refused k) e f = other n k f
 
-    delivered : (m : Node) (used : ℕ) (a : DeliverAnswer) → let s = answers m (deliverAnswer a) used in s .answer ≡ Answer.Started → isNone (s .node) ≡ false
-    delivered m used D.Done e = absurd (let z : _≡_ {A = ℕ} 0 1 = cc in omega arith)
-    delivered m used D.Voted e = absurd (let z : _≡_ {A = ℕ} 0 1 = cc in omega arith)
+    delivered : (m : Node) (used : ℕ) (a : DeliverAnswer)
+        → let s = answers m (deliverAnswer a) used in s .answer ≡ Answer.Started → isNone (s .node) ≡ false
+    delivered m used D.Done e = clash (cc)
+    delivered m used D.Voted e = clash (cc)
     delivered m used (D.Refused k) e = other m k e
 
     asked : (m : Node) (used : ℕ) (a : QueryAnswer) → let s = answers m (queryAnswer a) used in s .answer ≡ Answer.Started → isNone (s .node) ≡ false
-    asked m used Q.Open e = absurd (let z : _≡_ {A = ℕ} 0 1 = cc in omega arith)
+    asked m used Q.Open e = clash (cc)
     asked m used (Q.Refused k) e = other m k e

@@ -5,3 +5,4 @@ pub mod Outcomes
 pub mod Extents
 pub mod Following
 pub mod Held
+pub mod Sessions

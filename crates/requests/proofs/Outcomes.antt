@@ -1,9 +1,14 @@
--- What becomes of a request: it is cut, or a call answers it, and it has no more bytes than there are.
+-- What becomes of a request: it is cut, or the input holds it whole and a call answers it.
 use mathlib.Core.Path.{_≡_, refl}
+use mathlib.Core.Bool.{true}
 use mathlib.Core.List.{List}
 use Prim.Native.Nat.{ℕ, _+_, _≤_}
+use native.Mathlib.Omega.{arith}
 use lib.Dec.{eqb}
 use lib.ListN.{length, take, drop}
+use borrow.Author.Tests.{eqb-true}
+use Rattle.records.specs.Layout.{kindSheet, kindStart, kindQuery}
+use Rattle.checkpoint.specs.Layout.{kindCheckpoint}
 use Rattle.node.specs.declared.Node.{Node}
 use Rattle.node.specs.Start.{startOf}
 use Rattle.node.specs.Deliver.{deliverOf}
@@ -12,17 +17,45 @@ use Rattle.lists.proofs.Tests.{cond-cases}
 use Rattle.requests.specs.declared.Frame.{Frame}
 use Rattle.requests.specs.declared.Frame.the-variants.{Record, Cut}
 use Rattle.requests.specs.declared.Step.{Step}
-use Rattle.requests.specs.Framing.{isAnnouncement, frameOf}
-use Rattle.requests.specs.Requests.{isNone, cuts, answers, deliverAnswer, queryAnswer, afterStart, withSecond, stepStart, stepDeliver, stepQuery, placed, stepOf}
-use Rattle.requests.proofs.Frames.{frame-fits, second-fits}
+use Rattle.requests.specs.Framing.{isAnnouncement, frameOf, holdsRequest}
+use Rattle.requests.specs.Requests.{isNone, cuts, answers, deliverAnswer, queryAnswer, afterStart, withSecond, placed, stepOf}
+use Rattle.requests.specs.Requests.{stepStart, stepDeliver, stepQuery}
+use Rattle.requests.proofs.Frames.{frame-fits, frame-some, frame-held, second-fits, one-held, two-held}
+
+-- the request at the front of b is whole and has that many bytes
+pub record Whole (b : List ℕ) (used : ℕ) : Type 0 where
+  pub some : 1 ≤ used
+  pub fits : used ≤ length b
+  pub held : holdsRequest b ≡ true
+
+whole-one : (b : List ℕ) (size kind : ℕ) → frameOf b ≡ Record size kind → eqb kind kindQuery ≡ true → Whole b size
+whole-one b size kind e t =
+    let k : kind ≡ kindQuery = eqb-true _ _ t in
+    record {
+      some = frame-some b size kind e;
+      fits = frame-fits b size kind e;
+      held = one-held b size kind (rw k refl) e;
+    }
+
+whole-two : (b : List ℕ) (size kind more k : ℕ) → frameOf b ≡ Record size kind → frameOf (drop size b) ≡ Record more k
+    → Whole b (size + more)
+whole-two b size kind more k e g =
+    let s = frame-some b size kind e in
+    record {
+      some = omega arith;
+      fits = second-fits b size more k (frame-fits b size kind e) g;
+      held = two-held b size kind (frame-held (drop size b) more k g) e;
+    }
 
 -- what holds in each of these cases holds of the step
 module _ (n : Node) (b : List ℕ) (P : Step → Type 0)
     (cut : P (cuts n))
-    (start : (used : ℕ) (cb sb : List ℕ) → used ≤ length b → P (afterStart n used (startOf cb sb)))
-    (deliver : (used : ℕ) (ab sb : List ℕ) → used ≤ length b → P (answers (deliverOf n ab sb .node) (deliverAnswer (deliverOf n ab sb .answer)) used))
-    (query : (used : ℕ) (qb : List ℕ) → used ≤ length b → P (answers (queryOf n qb .node) (queryAnswer (queryOf n qb .answer)) used)) where
-  second-cases : (kind : ℕ) (f : ℕ → List ℕ → Step) (rest : List ℕ) (x : Frame) → ((size k : ℕ) → x ≡ Record size k → P (f size (take size rest))) → P (withSecond n kind f rest x)
+    (start : (used : ℕ) (cb sb : List ℕ) → Whole b used → P (afterStart n used (startOf cb sb)))
+    (deliver : (used : ℕ) (ab sb : List ℕ) → Whole b used
+    → P (answers (deliverOf n ab sb .node) (deliverAnswer (deliverOf n ab sb .answer)) used))
+    (query : (used : ℕ) (qb : List ℕ) → Whole b used → P (answers (queryOf n qb .node) (queryAnswer (queryOf n qb .answer)) used)) where
+  second-cases : (kind : ℕ) (f : ℕ → List ℕ → Step) (rest : List ℕ) (x : Frame)
+      → ((size k : ℕ) → x ≡ Record size k → P (f size (take size rest))) → P (withSecond n kind f rest x)
   second-cases kind f rest Cut h = cut
   second-cases kind f rest (Record size k) h = cond-cases P (eqb k kind) (λ _. h size k refl) (λ _. cut)
 
@@ -30,12 +63,15 @@ module _ (n : Node) (b : List ℕ) (P : Step → Type 0)
   unfolding stepStart stepDeliver stepQuery
   placed-cases Cut e = cut
   placed-cases (Record size kind) e =
-      let fits = frame-fits b size kind e in
       let rest = drop size b in
-      cond-cases P (eqb kind 19) (λ _. second-cases 16 _ rest (frameOf rest) (λ more k g. start (size + more) (take more rest) (take size b) (second-fits b size more k fits g)))
+      let two : (more k : ℕ) → frameOf rest ≡ Record more k → Whole b (size + more) = λ more k g. whole-two b size kind more k e g in
+      cond-cases P (eqb kind kindStart)
+      (λ _. second-cases kindCheckpoint _ rest (frameOf rest) (λ more k g. start (size + more) (take more rest) (take size b) (two more k g)))
       (λ _. cond-cases P (isNone n) (λ _. cut)
-      (λ _. cond-cases P (eqb kind 20) (λ _. query size (take size b) fits)
-      (λ _. cond-cases P (isAnnouncement kind) (λ _. second-cases 18 _ rest (frameOf rest) (λ more k g. deliver (size + more) (take size b) (take more rest) (second-fits b size more k fits g))) (λ _. cut))))
+      (λ _. cond-cases P (eqb kind kindQuery) (λ t. query size (take size b) (whole-one b size kind e t))
+      (λ _. cond-cases P (isAnnouncement kind)
+      (λ _. second-cases kindSheet _ rest (frameOf rest) (λ more k g. deliver (size + more) (take size b) (take more rest) (two more k g)))
+      (λ _. cut))))
 
   pub step-cases : P (stepOf n b)
   unfolding stepOf

@@ -5,8 +5,15 @@ use mathlib.Core.Bool.{Bool, cond, not, _&&_, _||_}
 use lib.Dec.{eqb, leb}
 use lib.ListN.{length, drop}
 use Rattle.binary.specs.Number.{field}
+use Rattle.state.specs.Kinds.{kindPropose, kindEnd}
+use Rattle.records.specs.Layout.{announcementSize, kindSheet, sheetHead, kindStart, startLength, kindQuery, queryLength}
+use Rattle.checkpoint.specs.Layout.{kindCheckpoint, checkpointSize}
 use Rattle.requests.specs.declared.Frame.{Frame}
 use Rattle.requests.specs.declared.Frame.the-variants.{Record, Cut}
+
+-- "A record is a 2-byte length (of what follows it), a 2-byte kind, a body."
+abbrev pub recordHead : ℕ
+recordHead = 4
 
 -- the bytes of the record at the front of b, its length field with them
 abbrev pub sizeOf : List ℕ → ℕ
@@ -16,20 +23,21 @@ abbrev pub kindOf : List ℕ → ℕ
 kindOf b = field 2 2 b
 
 abbrev pub isAnnouncement : ℕ → Bool
-isAnnouncement kind = leb 1 kind && leb kind 9
+isAnnouncement kind = leb kindPropose kind && leb kind kindEnd
 
 -- "A record too short for its kind (a sheet: under 7 bytes)": the fewest bytes of a record of that kind
 unfoldable pub leastSize : ℕ → ℕ
 leastSize kind =
-    cond (isAnnouncement kind) 24
-    (cond (eqb kind 16) 1108
-    (cond (eqb kind 18) 7
-    (cond (eqb kind 19) 9
-    (cond (eqb kind 20) 13 4))))
+    cond (isAnnouncement kind) announcementSize
+    (cond (eqb kind kindCheckpoint) checkpointSize
+    (cond (eqb kind kindSheet) sheetHead
+    (cond (eqb kind kindStart) (startLength + 2)
+    (cond (eqb kind kindQuery) (queryLength + 2)
+    recordHead))))
 
 -- b holds all of the record at its front
 unfoldable pub holdsRecord : List ℕ → Bool
-holdsRecord b = leb 4 (length b) && leb (sizeOf b) (length b)
+holdsRecord b = leb recordHead (length b) && leb (sizeOf b) (length b)
 
 -- the record at the front of the input b
 unfoldable pub frameOf : List ℕ → Frame
@@ -37,8 +45,12 @@ frameOf b = cond (holdsRecord b && leb (leastSize (kindOf b)) (sizeOf b)) (Recor
 
 -- "start and checkpoint (one request), then announcement and sheet (one), or query (one)"
 abbrev pub hasSecond : ℕ → Bool
-hasSecond kind = isAnnouncement kind || eqb kind 19
+hasSecond kind = isAnnouncement kind || eqb kind kindStart
 
 -- b holds all records of the request at its front
 unfoldable pub holdsRequest : List ℕ → Bool
 holdsRequest b = holdsRecord b && (not (hasSecond (kindOf b)) || holdsRecord (drop (sizeOf b) b))
+
+-- the bytes of two records of the greatest length
+abbrev pub requestRoom : ℕ
+requestRoom = 131074

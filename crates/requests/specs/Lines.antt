@@ -1,20 +1,10 @@
 -- "It prints one line each: ordinal, answer, the node's cycle after it (0 if none). The answer is "started", "voted", "done", "open", or "no" and the
 -- number." In ASCII, single spaces between, a line feed after each line.
-use Prim.Native.Nat.{ℕ, zero, suc, _+_, _/_, _%_}
+use Prim.Native.Nat.{ℕ, _+_}
 use mathlib.Core.List.{List, [], _∷_, _++_}
-use mathlib.Core.Bool.{cond}
-use lib.Dec.{ltb}
+use Rattle.decimal.specs.Decimal.{mostDigits, decimal}
 use Rattle.requests.specs.declared.Answer.{Answer}
 use Rattle.requests.specs.declared.Answer.the-variants.{Started, Voted, Done, Open, No}
-
--- x in decimal: its last k digits, without zeros in front
-unfoldable pub digits : ℕ → ℕ → List ℕ
-digits zero x = []
-digits (suc k) x = cond (ltb x 10) ((48 + x) ∷ []) (digits k (x / 10) ++ ((48 + x % 10) ∷ []))
-
--- ten digits hold every number of 32 bits
-abbrev pub decimal : ℕ → List ℕ
-decimal x = digits 10 x
 
 -- "started ", "voted ", "done ", "open ", "no "
 abbrev pub wordOf : Answer → List ℕ
@@ -26,3 +16,10 @@ wordOf (No k) = 110 ∷ 111 ∷ 32 ∷ (decimal k ++ (32 ∷ []))
 
 unfoldable pub lineOf : ℕ → Answer → ℕ → List ℕ
 lineOf ordinal answer cycle = decimal ordinal ++ (32 ∷ (wordOf answer ++ (decimal cycle ++ (10 ∷ []))))
+
+-- the bytes that are enough for the longest word with its number, and for the longest line
+abbrev pub wordRoom : ℕ
+wordRoom = 4 + mostDigits
+
+abbrev pub lineRoom : ℕ
+lineRoom = mostDigits + (wordRoom + mostDigits) + 2

@@ -4,6 +4,9 @@ use mathlib.Core.List.{List}
 use mathlib.Core.Bool.{Bool, true, false, cond}
 use lib.Dec.{eqb}
 use lib.ListN.{take, drop}
+use Rattle.state.specs.Time.{cycle, isSameCycle}
+use Rattle.records.specs.Layout.{kindSheet, kindStart, kindQuery}
+use Rattle.checkpoint.specs.Layout.{kindCheckpoint}
 use Rattle.node.specs.declared.Node.{Node}
 use Rattle.node.specs.declared.StartReply.{StartReply}
 use Rattle.node.specs.declared.StartAnswer.{StartAnswer}
@@ -24,7 +27,7 @@ use Rattle.requests.specs.Framing.{isAnnouncement, frameOf}
 
 -- The blank node, whose cycle is 0, stands for none: no start takes a checkpoint of cycle 0.
 abbrev pub isNone : Node → Bool
-isNone n = eqb (n .state .cycle .0) 0
+isNone n = isSameCycle (n .state .cycle) (cycle 0)
 
 -- "A cut record prints "no 1" and ends the run. So does a record out of its place, or an announcement or query before any node."
 abbrev pub cuts : Node → Step
@@ -58,12 +61,15 @@ withSecond n kind f b (Record size k) = cond (eqb k kind) (f size (take size b))
 -- a start record, the first bytes of b, and a checkpoint
 unfoldable pub stepStart : Node → ℕ → List ℕ → Step
 stepStart n first b =
-    withSecond n 16 (λ size checkpoint. afterStart n (first + size) (startOf checkpoint (take first b))) (drop first b) (frameOf (drop first b))
+    withSecond n kindCheckpoint
+    (λ size checkpoint. afterStart n (first + size) (startOf checkpoint (take first b)))
+    (drop first b)
+    (frameOf (drop first b))
 
 -- an announcement, the first bytes of b, and a sheet
 unfoldable pub stepDeliver : Node → ℕ → List ℕ → Step
 stepDeliver n first b =
-    withSecond n 18
+    withSecond n kindSheet
     (λ size sheet. let r = deliverOf n (take first b) sheet in answers (r .node) (deliverAnswer (r .answer)) (first + size))
     (drop first b)
     (frameOf (drop first b))
@@ -75,9 +81,9 @@ stepQuery n size b = let r = queryOf n (take size b) in answers (r .node) (query
 abbrev pub placed : Node → List ℕ → Frame → Step
 placed n b Cut = cuts n
 placed n b (Record size kind) =
-    cond (eqb kind 19) (stepStart n size b)
+    cond (eqb kind kindStart) (stepStart n size b)
     (cond (isNone n) (cuts n)
-    (cond (eqb kind 20) (stepQuery n size b)
+    (cond (eqb kind kindQuery) (stepQuery n size b)
     (cond (isAnnouncement kind) (stepDeliver n size b) (cuts n))))
 
 -- the request at the front of the input b, at node n

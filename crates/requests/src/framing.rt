@@ -2,15 +2,29 @@
 ghost use mathlib.Core.Path.{_≡_};
 ghost use Prim.Native.Nat.{_≤_};
 ghost use lib.ListN.{length};
-ghost use Rattle.requests.specs.Framing.{sizeOf, isAnnouncement, leastSize, holdsRecord, frameOf, hasSecond, holdsRequest};
+ghost use Rattle.requests.specs.Framing.{recordHead, sizeOf, isAnnouncement, leastSize, holdsRecord, frameOf, hasSecond, holdsRequest};
 use crate::Frame;
 use binary::u16_at;
+use checkpoint::layout::CHECKPOINT;
+use checkpoint::layout::CHECKPOINT_SIZE;
+use records::layout::ANNOUNCEMENT_SIZE;
+use records::layout::QUERY;
+use records::layout::QUERY_SIZE;
+use records::layout::SHEET;
+use records::layout::SHEET_HEAD;
+use records::layout::START;
+use records::layout::START_SIZE;
+use state::kinds::END;
+use state::kinds::PROPOSE;
+
+// The length field and the kind.
+const RECORD_HEAD: usize = 4;
 
 // Whether a record of this kind is an announcement.
 pub fn is_announcement(kind: u16) -> bool
     ensures { λ r. ⌜ r ≡ isAnnouncement kind ⌝ }
 {
-    (1 <= kind) & (kind <= 9)
+    (PROPOSE <= kind) & (kind <= END)
 }
 
 // The fewest bytes of a record of this kind.
@@ -18,20 +32,20 @@ fn least_size(kind: u16) -> usize
     ensures { λ r. ⌜ r ≡ leastSize kind ⌝ }
 {
     if is_announcement(kind) {
-        return 24;
+        return ANNOUNCEMENT_SIZE;
     }
     match kind {
-        16 => 1108,
-        18 => 7,
-        19 => 9,
-        20 => 13,
-        _ => 4,
+        CHECKPOINT => CHECKPOINT_SIZE,
+        SHEET => SHEET_HEAD,
+        START => START_SIZE,
+        QUERY => QUERY_SIZE,
+        _ => RECORD_HEAD,
     }
 }
 
 // The bytes of the record at the front, by its length field.
 fn size_of(b: &[u8]) -> usize
-    requires { ⌜ 4 ≤ length (now b) ⌝ }
+    requires { ⌜ recordHead ≤ length (now b) ⌝ }
     ensures { λ r. ⌜ r ≡ sizeOf (now (b .entry)) ⌝ }
 {
     (u16_at(b, 0) as usize) + 2
@@ -41,7 +55,7 @@ fn size_of(b: &[u8]) -> usize
 fn holds_record(b: &[u8]) -> bool
     ensures { λ r. ⌜ r ≡ holdsRecord (now (b .entry)) ⌝ }
 {
-    if b.len() < 4 {
+    if b.len() < RECORD_HEAD {
         return false;
     }
     size_of(b) <= b.len()
@@ -66,7 +80,7 @@ pub fn frame(b: &[u8]) -> Frame
 fn has_second(kind: u16) -> bool
     ensures { λ r. ⌜ r ≡ hasSecond kind ⌝ }
 {
-    is_announcement(kind) | (kind == 19)
+    is_announcement(kind) | (kind == START)
 }
 
 // Whether the bytes hold all records of the request at their front, so that more input changes nothing in its answer.

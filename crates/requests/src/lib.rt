@@ -7,6 +7,7 @@ mod steps;
 mod windows;
 
 pub use framing::holds_request;
+pub use lines::LINE_ROOM;
 pub use lines::put_line;
 pub use steps::take_step;
 pub use windows::shift;

@@ -8,11 +8,16 @@ use crate::Frame;
 use crate::Step;
 use crate::framing::frame;
 use crate::framing::is_announcement;
+use checkpoint::layout::CHECKPOINT;
 use node::DeliverAnswer;
 use node::Node;
 use node::QueryAnswer;
 use node::StartAnswer;
 use node::StartReply;
+use records::layout::QUERY;
+use records::layout::SHEET;
+use records::layout::START;
+use state::Cycle;
 
 // Whether there is no node: the blank one, of cycle 0, stands for none.
 fn is_none(n: Node) -> bool
@@ -20,7 +25,7 @@ fn is_none(n: Node) -> bool
 {
     let state = n.state;
     let cycle = state.cycle;
-    cycle.0 == 0
+    cycle.is_same(Cycle(0))
 }
 
 // A record is cut or out of its place.
@@ -86,7 +91,7 @@ fn step_start(n: Node, first: usize, b: &[u8]) -> Step
     let Frame::Record { size, kind } = second else {
         return cut(n);
     };
-    if kind != 16 {
+    if kind != CHECKPOINT {
         return cut(n);
     }
     let reply = Node::start(&rest[0..size], &b[0..first]);
@@ -103,7 +108,7 @@ fn step_deliver(n: Node, first: usize, b: &[u8]) -> Step
     let Frame::Record { size, kind } = second else {
         return cut(n);
     };
-    if kind != 18 {
+    if kind != SHEET {
         return cut(n);
     }
     let reply = n.deliver(&b[0..first], &rest[0..size]);
@@ -141,13 +146,13 @@ pub fn take_step(n: Node, b: &[u8]) -> Step
     let Frame::Record { size, kind } = front else {
         return cut(n);
     };
-    if kind == 19 {
+    if kind == START {
         return step_start(n, size, b);
     }
     if is_none(n) {
         return cut(n);
     }
-    if kind == 20 {
+    if kind == QUERY {
         return step_query(n, size, b);
     }
     if is_announcement(kind) {

@@ -1,7 +1,6 @@
--- Laws of the tables of a state.
-pub mod Seats
-pub mod Proposals
-pub mod Logins
+-- Laws of the rows of a state and of its quorum.
+pub mod SeatLaws
+pub mod MinimaRanges
+pub mod ProposalRows
 pub mod Facts
 pub mod TrusteeMasks
-pub mod Grants

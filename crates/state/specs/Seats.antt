@@ -49,4 +49,4 @@ quorum p m k = max (p / 2 + 1 + m) k
 
 -- the quorum in force
 unfoldable pub quorumOf : State → ℕ
-quorumOf s = quorum (presentSeats (s .seats)) (s .margin) (s .least)
+quorumOf s = quorum (presentSeats (s .seats)) (s .minima .margin) (s .minima .least)

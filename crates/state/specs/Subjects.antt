@@ -1,32 +1,43 @@
--- The subject of a proposal: the kind of an action, 4, 5 or 6, and its first 8 argument bytes as one little-endian number.
+-- The subject of a proposal: "subject kind 2 (4, 5 or 6), its first 8 argument bytes", these as one little-endian number; "unused ones zero".
 use Prim.Native.Nat.{ℕ, _+_, _*_, _/_, _%_, _^_}
 use mathlib.Core.Bool.{Bool, _&&_, _||_}
 use lib.Dec.{eqb, ltb, leb}
+use Rattle.state.specs.declared.Minima.{Minima}
+use Rattle.state.specs.declared.Subject.{Subject}
+use Rattle.state.specs.Limits.{seatCount}
+use Rattle.state.specs.Kinds.{kindCertify, kindMinima, kindRemove}
+use Rattle.state.specs.Minima.{isInRange}
 
--- "4 certify | seat 1, life 4 (at least 1)"; "seats are below 32"; "unused ones zero"
+-- "4 certify | seat 1, life 4 (at least 1)"; "seats are below 32"
+abbrev pub certifies : ℕ → ℕ → Subject
+certifies seat life = record { kind = kindCertify; arguments = seat + 256 * life }
+
 unfoldable pub isCertify : ℕ → Bool
-isCertify a = ltb (a % 256) 32 && (leb 1 (a / 256) && ltb a (256 ^ 5))
+isCertify a = ltb (a % 256) seatCount && (leb 1 (a / 256) && ltb a (256 ^ 5))
 
-abbrev pub certifyArguments : ℕ → ℕ → ℕ
-certifyArguments seat life = seat + 256 * life
+-- "5 minima | m 1, k 1, S 2"
+abbrev pub setsMinima : Minima → Subject
+setsMinima x = record { kind = kindMinima; arguments = x .margin + 256 * x .least + 65536 * x .silence }
 
--- "5 minima | m 1, k 1, S 2", with margin m 0 to 7, least quorum k 1 to 32, silence limit S 1 to 365
+abbrev pub minimaIn : ℕ → Minima
+minimaIn a = record { margin = a % 256; least = a / 256 % 256; silence = a / 65536 % 65536 }
+
 unfoldable pub isMinima : ℕ → Bool
-isMinima a =
-    leb (a % 256) 7
-    && ((leb 1 (a / 256 % 256) && leb (a / 256 % 256) 32)
-    && (leb 1 (a / 65536) && leb (a / 65536) 365))
-
-abbrev pub minimaArguments : ℕ → ℕ → ℕ → ℕ
-minimaArguments m k S = m + 256 * k + 65536 * S
+isMinima a = isInRange (minimaIn a) && ltb a (256 ^ 4)
 
 -- "6 remove | seat 1"
-unfoldable pub isRemove : ℕ → Bool
-isRemove a = ltb a 32
+abbrev pub removes : ℕ → Subject
+removes seat = record { kind = kindRemove; arguments = seat }
 
-abbrev pub removeArguments : ℕ → ℕ
-removeArguments seat = seat
+unfoldable pub isRemove : ℕ → Bool
+isRemove a = ltb a seatCount
+
+-- that of an action that needs no notice
+abbrev pub noSubject : Subject
+noSubject = record { kind = 0; arguments = 0 }
 
 -- "a proposal's subject arguments obey the ranges of their kind"
-unfoldable pub isSubject : ℕ → ℕ → Bool
-isSubject kind a = (eqb kind 4 && isCertify a) || ((eqb kind 5 && isMinima a) || (eqb kind 6 && isRemove a))
+unfoldable pub isSubject : Subject → Bool
+isSubject x =
+    (eqb (x .kind) kindCertify && isCertify (x .arguments))
+    || ((eqb (x .kind) kindMinima && isMinima (x .arguments)) || (eqb (x .kind) kindRemove && isRemove (x .arguments)))

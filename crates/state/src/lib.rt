@@ -1,19 +1,34 @@
 // The replicated state of a park (01: the synchronised state), and the helpers of days and cycles.
-pub mod login_table;
-pub mod proposal_table;
-pub mod seat_table;
+pub mod kinds;
+pub mod limits;
+pub mod seats;
 pub mod subjects;
 pub mod trustees;
 pub mod well_formed;
 
 ghost use mathlib.Core.Path.{_≡_};
-ghost use Rattle.state.specs.Time.{isBeforeDay, daysSince, laterDay, isBeforeCycle, isSameCycle, nextCycle};
+ghost use Rattle.state.specs.Time.{isBeforeDay, isSameDay, daysSince, laterDay, isBeforeCycle, isSameCycle, cyclesSince, nextCycle};
+ghost use Rattle.state.specs.WellFormed.{blankState};
+ghost use Rattle.state.specs.Rows.{isProposal, isLogin, isEnded, holdsRight, isSilent};
+use crate::limits::LAST_CYCLE;
+use crate::limits::LOGIN_ROWS;
+use crate::limits::PROPOSAL_ROWS;
+use crate::limits::RIGHTS;
+use crate::limits::SEATS;
 
 // A count of days from 1970-01-01.
 pub struct Day(pub u32);
 
 // The number of performed actions plus 1.
 pub struct Cycle(pub u32);
+
+// What the park asks of its quorums and of the age of what a node has heard (01: the minima).
+pub struct Minima {
+    // The margin m, the least quorum k and the silence limit S in days.
+    pub margin: u8,
+    pub least: u8,
+    pub silence: u16,
+}
 
 // A node's place in the park. A free seat is all zero.
 pub struct Seat {
@@ -22,14 +37,17 @@ pub struct Seat {
     pub life: u32,
 }
 
-// A notice that an action of kind 4, 5 or 6 is intended. An unused row is all zero.
-pub struct Proposal {
-    // The cycle and the day in which it was announced.
-    pub cycle: Cycle,
-    pub day: Day,
-    // The kind of the intended action, and its argument bytes as one little-endian number.
+// An action that needs a notice: its kind, and its first 8 argument bytes as one little-endian number.
+pub struct Subject {
     pub kind: u16,
     pub arguments: u64,
+}
+
+// A notice that its subject is intended, and in which cycle and on which day it was announced. An unused row is all zero.
+pub struct Proposal {
+    pub cycle: Cycle,
+    pub day: Day,
+    pub subject: Subject,
 }
 
 // A login, its last day and a bit for each right that it holds. An unused row is all zero.
@@ -47,20 +65,44 @@ pub struct State {
     // The numbers of trustees of level 1 and of level 2.
     pub trustees1: u8,
     pub trustees2: u8,
-    // The margin m, the least quorum k and the silence limit S in days.
-    pub margin: u8,
-    pub least: u8,
-    pub silence: u16,
-    pub seats: [Seat; 32],
-    pub proposals: [Proposal; 16],
-    pub logins: [Login; 64],
+    pub minima: Minima,
+    pub seats: [Seat; SEATS],
+    pub proposals: [Proposal; PROPOSAL_ROWS],
+    pub logins: [Login; LOGIN_ROWS],
 }
+
+// The unused rows.
+pub const NO_SEAT: Seat = Seat {
+    standing: 0,
+    life: 0,
+};
+
+pub const NO_PROPOSAL: Proposal = Proposal {
+    cycle: Cycle(0),
+    day: Day(0),
+    subject: Subject {
+        kind: 0,
+        arguments: 0,
+    },
+};
+
+pub const NO_LOGIN: Login = Login {
+    login: 0,
+    end: Day(0),
+    rights: 0,
+};
 
 impl Day {
     pub fn is_before(self, other: Day) -> bool
         ensures { λ r. ⌜ r ≡ isBeforeDay self other ⌝ }
     {
         self.0 < other.0
+    }
+
+    pub fn is_same(self, other: Day) -> bool
+        ensures { λ r. ⌜ r ≡ isSameDay self other ⌝ }
+    {
+        self.0 == other.0
     }
 
     // The days from the earlier day up to this one, 0 where that day is later.
@@ -94,14 +136,87 @@ impl Cycle {
         self.0 == other.0
     }
 
+    // The cycles from the earlier one up to this one, 0 where that one is later.
+    pub fn since(self, earlier: Cycle) -> u32
+        ensures { λ r. ⌜ r ≡ cyclesSince self earlier ⌝ }
+    {
+        if earlier.0 <= self.0 {
+            self.0 - earlier.0
+        } else {
+            0
+        }
+    }
+
     // The last cycle has none after it.
     pub fn next(self) -> Cycle
         ensures { λ r. ⌜ r ≡ nextCycle self ⌝ }
     {
-        if self.0 < 4294967295 {
+        if self.0 < LAST_CYCLE {
             Cycle(self.0 + 1)
         } else {
             self
         }
     }
+}
+
+impl Proposal {
+    pub fn is_used(self) -> bool
+        ensures { λ r. ⌜ r ≡ isProposal self ⌝ }
+    {
+        self.subject.kind != 0
+    }
+}
+
+impl Login {
+    pub fn is_used(self) -> bool
+        ensures { λ r. ⌜ r ≡ isLogin self ⌝ }
+    {
+        self.login != 0
+    }
+
+    pub fn is_ended(self, t: Day) -> bool
+        ensures { λ r. ⌜ r ≡ isEnded t self ⌝ }
+    {
+        let end = self.end;
+        end.is_before(t)
+    }
+
+    // Bit `right` of the rights. No login has a right beyond the last.
+    pub fn holds_right(self, right: u8) -> bool
+        ensures { λ r. ⌜ r ≡ holdsRight right self ⌝ }
+    {
+        if RIGHTS <= right {
+            return false;
+        }
+        (self.rights >> (right as u16)) % 2 == 1
+    }
+}
+
+// Whether a state of this agreed day and silence limit is silent on day t.
+pub fn is_silent(agreed: Day, silence: u16, t: Day) -> bool
+    ensures { λ r. ⌜ r ≡ isSilent agreed silence t ⌝ }
+{
+    (silence as u32) < t.since(agreed)
+}
+
+// The blank state, all zero: it stands for none.
+const BLANK: State = State {
+    cycle: Cycle(0),
+    day: Day(0),
+    trustees1: 0,
+    trustees2: 0,
+    minima: Minima {
+        margin: 0,
+        least: 0,
+        silence: 0,
+    },
+    seats: [NO_SEAT; SEATS],
+    proposals: [NO_PROPOSAL; PROPOSAL_ROWS],
+    logins: [NO_LOGIN; LOGIN_ROWS],
+};
+
+pub fn blank_state() -> State
+    ensures { λ r. ⌜ r ≡ blankState ⌝ }
+{
+    BLANK
 }

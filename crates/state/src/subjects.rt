@@ -1,6 +1,36 @@
 // The subjects of proposals: a kind, 4 certify, 5 minima or 6 remove, and its argument bytes as one little-endian number.
 ghost use mathlib.Core.Path.{_≡_};
-ghost use Rattle.state.specs.Subjects.{isCertify, isMinima, isRemove, isSubject, certifyArguments, minimaArguments, removeArguments};
+ghost use Rattle.state.specs.Minima.{isInRange};
+ghost use Rattle.state.specs.Subjects.{minimaIn, isCertify, isMinima, isRemove, isSubject, noSubject, certifies, setsMinima, removes};
+use crate::Minima;
+use crate::Subject;
+use crate::kinds::CERTIFY;
+use crate::kinds::MINIMA;
+use crate::kinds::REMOVE;
+use crate::limits::MOST_LEAST;
+use crate::limits::MOST_MARGIN;
+use crate::limits::MOST_SILENCE;
+
+impl Minima {
+    pub fn is_in_range(self) -> bool
+        ensures { λ r. ⌜ r ≡ isInRange self ⌝ }
+    {
+        (self.margin <= MOST_MARGIN)
+            & (((1 <= self.least) & (self.least <= MOST_LEAST))
+                & ((1 <= self.silence) & (self.silence <= MOST_SILENCE)))
+    }
+}
+
+// The minima in a subject's argument bytes.
+fn minima_in(a: u64) -> Minima
+    ensures { λ r. ⌜ r ≡ minimaIn a ⌝ }
+{
+    Minima {
+        margin: (a % 256) as u8,
+        least: (a / 256 % 256) as u8,
+        silence: (a / 65536 % 65536) as u16,
+    }
+}
 
 // A seat below 32, a life of at least 1, and zero bytes after them.
 fn is_certify(a: u64) -> bool
@@ -9,48 +39,66 @@ fn is_certify(a: u64) -> bool
     (a % 256 < 32) & ((1 <= a / 256) & (a < 1099511627776))
 }
 
-// A margin of at most 7, a least quorum of 1 to 32, a silence limit of 1 to 365.
+// Minima within their ranges, and zero bytes after them.
 fn is_minima(a: u64) -> bool
     ensures { λ r. ⌜ r ≡ isMinima a ⌝ }
 {
-    let least = a / 256 % 256;
-    let silence = a / 65536;
-    (a % 256 <= 7) & (((1 <= least) & (least <= 32)) & ((1 <= silence) & (silence <= 365)))
+    let minima = minima_in(a);
+    minima.is_in_range() & (a < 4294967296)
 }
 
-// A seat below 32.
+// A seat below 32, and zero bytes after it.
 fn is_remove(a: u64) -> bool
     ensures { λ r. ⌜ r ≡ isRemove a ⌝ }
 {
     a < 32
 }
 
-// Whether the kind may be proposed and its arguments obey its ranges.
-pub fn is_subject(kind: u16, arguments: u64) -> bool
-    ensures { λ r. ⌜ r ≡ isSubject kind arguments ⌝ }
-{
-    match kind {
-        4 => is_certify(arguments),
-        5 => is_minima(arguments),
-        6 => is_remove(arguments),
-        _ => false,
+impl Subject {
+    // Whether the kind may be proposed and its arguments obey its ranges.
+    pub fn is_well_formed(self) -> bool
+        ensures { λ r. ⌜ r ≡ isSubject self ⌝ }
+    {
+        let kind = self.kind;
+        let arguments = self.arguments;
+        match kind {
+            CERTIFY => is_certify(arguments),
+            MINIMA => is_minima(arguments),
+            REMOVE => is_remove(arguments),
+            _ => false,
+        }
     }
 }
 
-pub fn certify_arguments(seat: u8, life: u32) -> u64
-    ensures { λ r. ⌜ r ≡ certifyArguments seat life ⌝ }
+// The subject of each action that needs a notice, and that of any other.
+pub fn certifies(seat: u8, life: u32) -> Subject
+    ensures { λ r. ⌜ r ≡ certifies seat life ⌝ }
 {
-    (seat as u64) + 256 * (life as u64)
+    Subject {
+        kind: CERTIFY,
+        arguments: (seat as u64) + 256 * (life as u64),
+    }
 }
 
-pub fn minima_arguments(m: u8, k: u8, s: u16) -> u64
-    ensures { λ r. ⌜ r ≡ minimaArguments m k s ⌝ }
+pub fn sets_minima(x: Minima) -> Subject
+    ensures { λ r. ⌜ r ≡ setsMinima x ⌝ }
 {
-    (m as u64) + 256 * (k as u64) + 65536 * (s as u64)
+    Subject {
+        kind: MINIMA,
+        arguments: (x.margin as u64) + 256 * (x.least as u64) + 65536 * (x.silence as u64),
+    }
 }
 
-pub fn remove_arguments(seat: u8) -> u64
-    ensures { λ r. ⌜ r ≡ removeArguments seat ⌝ }
+pub fn removes(seat: u8) -> Subject
+    ensures { λ r. ⌜ r ≡ removes seat ⌝ }
 {
-    seat as u64
+    Subject {
+        kind: REMOVE,
+        arguments: seat as u64,
+    }
 }
+
+pub const NO_SUBJECT: Subject = Subject {
+    kind: 0,
+    arguments: 0,
+};

@@ -1,14 +1,15 @@
 // Which rows of a state are well formed.
 ghost use mathlib.Core.Path.{_≡_};
-ghost use Rattle.state.specs.WellFormed.{isWellFormedSeat, isPending, isZeroProposal, isGranted, isZeroLogin};
+ghost use Rattle.lists.specs.Code.{isFilled, isSpare};
+ghost use Rattle.state.specs.Rows.{isProposal, isLogin};
+ghost use Rattle.state.specs.WellFormed.{isWellFormedSeat, isIntended, isBlankProposal, hasRights, isBlankLogin};
 use crate::Cycle;
 use crate::Day;
 use crate::Login;
 use crate::Proposal;
 use crate::Seat;
-use crate::seat_table::FREE;
-use crate::seat_table::RETIRED;
-use crate::subjects::is_subject;
+use crate::seats::FREE;
+use crate::seats::RETIRED;
 
 impl Seat {
     // The life is 0 exactly at a free seat.
@@ -26,34 +27,39 @@ impl Seat {
 impl Proposal {
     // A used row that fits a state of this cycle and agreed day.
     pub fn is_pending(self, c: Cycle, d: Day) -> bool
-        ensures { λ r. ⌜ r ≡ isPending c d self ⌝ }
+        ensures { λ r. ⌜ r ≡ isFilled isProposal (isIntended c d) self ⌝ }
     {
         let cycle = self.cycle;
         let day = self.day;
-        let subject = is_subject(self.kind, self.arguments);
-        self.is_used() & (cycle.is_before(c) & (!d.is_before(day) & subject))
+        let subject = self.subject;
+        let well_formed = subject.is_well_formed();
+        self.is_used() & (cycle.is_before(c) & (!d.is_before(day) & well_formed))
     }
 
     // An unused row, all zero.
     pub fn is_zero(self) -> bool
-        ensures { λ r. ⌜ r ≡ isZeroProposal self ⌝ }
+        ensures { λ r. ⌜ r ≡ isSpare isProposal isBlankProposal self ⌝ }
     {
-        !self.is_used() & ((self.cycle.0 == 0) & ((self.day.0 == 0) & (self.arguments == 0)))
+        let cycle = self.cycle;
+        let day = self.day;
+        let arguments = self.subject.arguments;
+        !self.is_used() & (cycle.is_same(Cycle(0)) & (day.is_same(Day(0)) & (arguments == 0)))
     }
 }
 
 impl Login {
     // A used row with rights.
     pub fn is_granted(self) -> bool
-        ensures { λ r. ⌜ r ≡ isGranted self ⌝ }
+        ensures { λ r. ⌜ r ≡ isFilled isLogin hasRights self ⌝ }
     {
         self.is_used() & (1 <= self.rights)
     }
 
     // An unused row, all zero.
     pub fn is_zero(self) -> bool
-        ensures { λ r. ⌜ r ≡ isZeroLogin self ⌝ }
+        ensures { λ r. ⌜ r ≡ isSpare isLogin isBlankLogin self ⌝ }
     {
-        !self.is_used() & ((self.end.0 == 0) & (self.rights == 0))
+        let end = self.end;
+        !self.is_used() & (end.is_same(Day(0)) & (self.rights == 0))
     }
 }

@@ -1,113 +1,43 @@
 use native.Mathlib.Omega.{arith}
-use lib.ListN.{length-set}
-use Rattle.binary.proofs.Splices.{splice-stores}
-use Rattle.binary.specs.Number.{toBytes}
+use Rattle.binary.proofs.Splices.{then-put}
+use Rattle.binary.proofs.Number.{number-length, bytes-halves}
 use borrow.Author.Needs.{needs}
 use Rattle.binary.proofs.put_u64.Statement.{statement}
 use Rattle.binary.proofs.put_u64.Tie as tie
 
-cast-out : tie.Need-cast-out
-cast-out c = search needs
+cast-put-u32 : tie.Need-cast-put-u32
+cast-put-u32 c = search needs
 
-slice-write-out : tie.Need-slice-write-out
-slice-write-out c = search needs
+put-u32-requires : tie.Need-put-u32-requires
+put-u32-requires c κs = search needs
 
-cast-out-2 : tie.Need-cast-out-2
-cast-out-2 c = search needs
+add-put-u32 : tie.Need-add-put-u32
+add-put-u32 c = search needs
 
-add-out : tie.Need-add-out
-add-out c = search needs
+cast-put-u32-2 : tie.Need-cast-put-u32-2
+cast-put-u32-2 c = search needs
 
-slice-write-out-2 : tie.Need-slice-write-out-2
-slice-write-out-2 c = simp length-set (omega arith)
-
-cast-out-3 : tie.Need-cast-out-3
-cast-out-3 c = search needs
-
-add-out-2 : tie.Need-add-out-2
-add-out-2 c = search needs
-
-slice-write-out-3 : tie.Need-slice-write-out-3
-slice-write-out-3 c = simp length-set (omega arith)
-
-cast-out-4 : tie.Need-cast-out-4
-cast-out-4 c = search needs
-
-add-out-3 : tie.Need-add-out-3
-add-out-3 c = search needs
-
-slice-write-out-4 : tie.Need-slice-write-out-4
-slice-write-out-4 c = simp length-set (omega arith)
-
-cast-out-5 : tie.Need-cast-out-5
-cast-out-5 c = search needs
-
-add-out-4 : tie.Need-add-out-4
-add-out-4 c = search needs
-
-slice-write-out-5 : tie.Need-slice-write-out-5
-slice-write-out-5 c = simp length-set (omega arith)
-
-cast-out-6 : tie.Need-cast-out-6
-cast-out-6 c = search needs
-
-add-out-5 : tie.Need-add-out-5
-add-out-5 c = search needs
-
-slice-write-out-6 : tie.Need-slice-write-out-6
-slice-write-out-6 c = simp length-set (omega arith)
-
-cast-out-7 : tie.Need-cast-out-7
-cast-out-7 c = search needs
-
-add-out-6 : tie.Need-add-out-6
-add-out-6 c = search needs
-
-slice-write-out-7 : tie.Need-slice-write-out-7
-slice-write-out-7 c = simp length-set (omega arith)
-
-cast-out-8 : tie.Need-cast-out-8
-cast-out-8 c = search needs
-
-add-out-7 : tie.Need-add-out-7
-add-out-7 c = search needs
-
-slice-write-out-8 : tie.Need-slice-write-out-8
-slice-write-out-8 c = simp length-set (omega arith)
+put-u32-requires-2 : tie.Need-put-u32-requires-2
+put-u32-requires-2 c κs = search needs
 
 same-length : tie.Need-same-length
-same-length c = simp length-set
+same-length c = search needs
 
 returns : tie.Need-returns
-unfolding toBytes
-returns c = splice-stores _ _ _ _ (c .pre)
+returns c =
+    let second = c .before .before in
+    let first = second .before .before .before .before in
+    rw (← bytes-halves (first .before .before .before .args .x))
+    (then-put _ _ _ _ _ _ _ (second .put-u322 .ensures) (first .put-u32 .ensures) (simp number-length) (omega arith))
 
 pub put-u64-spec : {M : Type 1} → statement M
 put-u64-spec =
     tie.close
     (tie.spec
-    cast-out
-    slice-write-out
-    cast-out-2
-    add-out
-    slice-write-out-2
-    cast-out-3
-    add-out-2
-    slice-write-out-3
-    cast-out-4
-    add-out-3
-    slice-write-out-4
-    cast-out-5
-    add-out-4
-    slice-write-out-5
-    cast-out-6
-    add-out-5
-    slice-write-out-6
-    cast-out-7
-    add-out-6
-    slice-write-out-7
-    cast-out-8
-    add-out-7
-    slice-write-out-8
+    cast-put-u32
+    put-u32-requires
+    add-put-u32
+    cast-put-u32-2
+    put-u32-requires-2
     same-length
     returns)

@@ -18,7 +18,12 @@ two-requires : tie.Need-two-requires
 two-requires c κs = search needs
 
 returns : tie.Need-returns
-returns c = omega (arith, c .two .ensures, number-at 1 (c .before .before .before .before .args .at) (now (c .before .before .before .before .args .s)))
+returns c = omega (
+  arith,
+  c .two .ensures,
+  number-at 1 (c .before .before .before .before .args .at)
+      (now (c .before .before .before .before .args .s)),
+)
 
 pub u16-at-spec : {M : Type 1} → statement M
 u16-at-spec =

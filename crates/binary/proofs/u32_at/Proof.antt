@@ -30,7 +30,9 @@ four-requires : tie.Need-four-requires
 four-requires c κs = search needs
 
 returns : tie.Need-returns
-returns c = omega (arith, c .four .ensures, number-at 3 (c .before .before .before .before .before .before .args .at) (now (c .before .before .before .before .before .before .args .s)))
+returns c =
+    let a = c .before .before .before .before .before .before .args in
+    omega (arith, c .four .ensures, number-at 3 (a .at) (now (a .s)))
 
 pub u32-at-spec : {M : Type 1} → statement M
 u32-at-spec =

@@ -22,7 +22,14 @@ eight-requires c κs = search needs
 returns : tie.Need-returns
 returns c =
     let a = c .before .before .before .before .args in
-    omega (arith, c .eight .ensures, c .before .u32-at2 .ensures, c .before .before .u32-at .ensures, rw drop-drop at (number-add 4 4 (drop (a .at) (now (a .s)))))
+    omega (
+      arith,
+      c .eight .ensures,
+      c .before .u32-at2 .ensures,
+      c .before .before .u32-at .ensures,
+      rw drop-drop at
+          (number-add 4 4 (drop (a .at) (now (a .s)))),
+    )
 
 pub u64-at-spec : {M : Type 1} → statement M
 u64-at-spec =

@@ -1,5 +1,6 @@
+use Rattle.node_run.proofs.Outcomes.{answered}
+use Rattle.requests.proofs.Extents.{used-in}
 use native.Mathlib.Nat.{lt-of-le-of-lt}
-use Rattle.requests.proofs.Extents.{used-in, line-ends}
 use native.Mathlib.Omega.{arith}
 use denote.Ref.{now}
 use borrow.Author.Needs.{needs}
@@ -21,22 +22,37 @@ take-step-requires c κs = search needs
 put-line-requires : tie.Need-put-line-requires
 put-line-requires c κs = search needs
 
-add-t15 : tie.Need-add-t15
-add-t15 c = let s = c .before .before .before .before .before .before .before .before .before .before .before .before .before in
+add-next : tie.Need-add-next
+add-next c =
+    let p = c .before .before .before in
+    let t = p .before .before .before .before .before in
+    let s = t .before .before .before .before .before in
     let a = s .args in
-    let u = used-in (a .run .node) (now (a .input)) (a .run .from) (a .run .to) _ (s .pre .0) (s .pre .1 .0) (c .before .before .before .before .before .before .before .before .take-step .ensures) in
+    let u = used-in (a .run .node) (now (a .input)) (a .run .from) (a .run .to) _ (s .pre .0 .0) (s .pre .0 .1 .0) (t .take-step .ensures) in
     record { fits = lt-of-le-of-lt u (omega arith) }
+
+add-t20 : tie.Need-add-t20
+add-t20 c =
+    let p = c .before .before .before .before in
+    let t = p .before .before .before .before .before in
+    let s = t .before .before .before .before .before in
+    record { fits = omega (arith, s .pre .1) }
 
 same-length : tie.Need-same-length
 same-length c = search needs
 
 returns : tie.Need-returns
-returns c = let s = c .before .before .before .before .before .before .before .before .before .before .before .before .before .before in
+returns c =
+    let p = c .before .before .before .before in
+    let t = p .before .before .before .before .before in
+    let s = t .before .before .before .before .before in
     let a = s .args in
-    let u = used-in (a .run .node) (now (a .input)) (a .run .from) (a .run .to) _ (s .pre .0) (s .pre .1 .0) (c .before .before .before .before .before .before .before .before .before .take-step .ensures) in
-    let p = c .before .before .before .before .put-line in
-    let l = line-ends (a .run .pending) (p .result) _ _ _ (p .ensures .0) in
-    (u, (s .pre .1 .0, omega (arith, l, s .pre .1 .1, p .kept .0)))
+    answered (a .run) (now (a .input)) (now (a .output)) _ (t .take-step .result) (p .put-line .result)
+    (s .pre .0)
+    (t .take-step .ensures)
+    (p .put-line .ensures .0)
+    (p .put-line .ensures .1)
+    (p .put-line .kept .0)
 
 pub answer-spec : {M : Type 1} → statement M
 answer-spec =
@@ -47,6 +63,7 @@ answer-spec =
     part-take-step-end
     take-step-requires
     put-line-requires
-    add-t15
+    add-next
+    add-t20
     same-length
     returns)

@@ -1,6 +1,10 @@
+use Rattle.actions.specs.Perform.{effect, useProposal, act}
 use borrow.Author.Needs.{needs}
 use Rattle.actions.proofs.effects.act.Statement.{statement}
 use Rattle.actions.proofs.effects.act.Tie as tie
+
+subject-requires : tie.Need-subject-requires
+subject-requires c κs = search needs
 
 enum-known-action : tie.Need-enum-known-action
 enum-known-action c = search needs
@@ -17,8 +21,11 @@ cancel-requires c κs = search needs
 enum-known-action-3 : tie.Need-enum-known-action-3
 enum-known-action-3 c = search needs
 
-presents-requires : tie.Need-presents-requires
-presents-requires c κs = search needs
+given-standing-requires : tie.Need-given-standing-requires
+given-standing-requires c κs = search needs
+
+with-standing-requires : tie.Need-with-standing-requires
+with-standing-requires c κs = search needs
 
 enum-known-action-4 : tie.Need-enum-known-action-4
 enum-known-action-4 c = search needs
@@ -26,23 +33,32 @@ enum-known-action-4 c = search needs
 certify-requires : tie.Need-certify-requires
 certify-requires c κs = search needs
 
+use-proposal-requires : tie.Need-use-proposal-requires
+use-proposal-requires c κs = search needs
+
 enum-known-action-5 : tie.Need-enum-known-action-5
 enum-known-action-5 c = search needs
 
-minima-requires : tie.Need-minima-requires
-minima-requires c κs = search needs
+with-minima-requires : tie.Need-with-minima-requires
+with-minima-requires c κs = search needs
+
+use-proposal-requires-2 : tie.Need-use-proposal-requires-2
+use-proposal-requires-2 c κs = search needs
 
 enum-known-action-6 : tie.Need-enum-known-action-6
 enum-known-action-6 c = search needs
 
-remove-requires : tie.Need-remove-requires
-remove-requires c κs = search needs
+with-standing-requires-2 : tie.Need-with-standing-requires-2
+with-standing-requires-2 c κs = search needs
+
+use-proposal-requires-3 : tie.Need-use-proposal-requires-3
+use-proposal-requires-3 c κs = search needs
 
 enum-known-action-7 : tie.Need-enum-known-action-7
 enum-known-action-7 c = search needs
 
-rejoin-requires : tie.Need-rejoin-requires
-rejoin-requires c κs = search needs
+with-life-requires : tie.Need-with-life-requires
+with-life-requires c κs = search needs
 
 enum-known-action-8 : tie.Need-enum-known-action-8
 enum-known-action-8 c = search needs
@@ -57,50 +73,73 @@ end-requires : tie.Need-end-requires
 end-requires c κs = search needs
 
 returns : tie.Need-returns
+unfolding act useProposal effect
 returns c = rw (c .before .before .action .given .1) (c .propose .ensures)
 
 returns-2 : tie.Need-returns-2
-returns-2 c = rw (c .before .before .action2 .given .1) (c .cancel .ensures)
+unfolding act useProposal effect
+returns-2 c = rw (c .before .before .action2 .given .1) (c .cancel .ensures (c .before .before .before .before .before .args .d))
 
 returns-3 : tie.Need-returns-3
-returns-3 c = rw (c .before .before .action3 .given .1) (c .presents .ensures)
+unfolding act useProposal effect
+returns-3 c = rw (c .before .before .before .action3 .given .1, ← c .before .given-standing .ensures) (c .with-standing .ensures)
 
 returns-4 : tie.Need-returns-4
-returns-4 c = rw (c .before .before .action4 .given .1) (c .certify .ensures)
+unfolding act effect
+returns-4 c =
+    let arm = c .before .before .before in
+    let subject = arm .before .before in
+    rw (← subject .subject .ensures, arm .action4 .given .1, ← c .before .certify .ensures (subject .before .args .d)) (c .use-proposal .ensures)
 
 returns-5 : tie.Need-returns-5
-returns-5 c = rw (c .before .before .action5 .given .1) (c .minima .ensures)
+unfolding act effect
+returns-5 c =
+    let arm = c .before .before .before in
+    let subject = arm .before .before in
+    rw (← subject .subject .ensures, arm .action5 .given .1, ← c .before .with-minima .ensures) (c .use-proposal2 .ensures)
 
 returns-6 : tie.Need-returns-6
-returns-6 c = rw (c .before .before .action6 .given .1) (c .remove .ensures)
+unfolding act effect
+returns-6 c =
+    let arm = c .before .before .before in
+    let subject = arm .before .before in
+    rw (← subject .subject .ensures, arm .action6 .given .1, ← c .before .with-standing2 .ensures) (c .use-proposal3 .ensures)
 
 returns-7 : tie.Need-returns-7
-returns-7 c = rw (c .before .before .action7 .given .1) (c .rejoin .ensures)
+unfolding act useProposal effect
+returns-7 c = rw (c .before .before .action7 .given .1) (c .with-life .ensures)
 
 returns-8 : tie.Need-returns-8
-returns-8 c = rw (c .before .before .action8 .given .1) (c .grant .ensures)
+unfolding act useProposal effect
+returns-8 c = rw (c .before .before .action8 .given .1) (c .grant .ensures (c .before .before .before .before .before .args .d))
 
 returns-9 : tie.Need-returns-9
-returns-9 c = rw (c .before .before .action9 .given .1) (c .end .ensures)
+unfolding act useProposal effect
+returns-9 c = rw (c .before .before .action9 .given .1) (c .end .ensures (c .before .before .before .before .before .args .d))
 
 pub act-spec : {M : Type 1} → statement M
 act-spec =
     tie.close
     (tie.spec
+    subject-requires
     enum-known-action
     propose-requires
     enum-known-action-2
     cancel-requires
     enum-known-action-3
-    presents-requires
+    given-standing-requires
+    with-standing-requires
     enum-known-action-4
     certify-requires
+    use-proposal-requires
     enum-known-action-5
-    minima-requires
+    with-minima-requires
+    use-proposal-requires-2
     enum-known-action-6
-    remove-requires
+    with-standing-requires-2
+    use-proposal-requires-3
     enum-known-action-7
-    rejoin-requires
+    with-life-requires
     enum-known-action-8
     grant-requires
     enum-known-action-9

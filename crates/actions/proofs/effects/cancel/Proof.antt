@@ -1,4 +1,4 @@
-use Rattle.actions.specs.Perform.{act}
+use Rattle.actions.specs.Perform.{effect}
 use borrow.Author.Needs.{needs}
 use Rattle.actions.proofs.effects.cancel.Statement.{statement}
 use Rattle.actions.proofs.effects.cancel.Tie as tie
@@ -10,8 +10,8 @@ with-proposals-requires : tie.Need-with-proposals-requires
 with-proposals-requires c κs = search needs
 
 returns : tie.Need-returns
-unfolding act
-returns c = rw (← c .before .drop-proposal .ensures) (c .with-proposals .ensures)
+unfolding effect
+returns c d = rw (← c .before .drop-proposal .ensures) (c .with-proposals .ensures)
 
 pub cancel-spec : {M : Type 1} → statement M
 cancel-spec = tie.close (tie.spec drop-proposal-requires with-proposals-requires returns)

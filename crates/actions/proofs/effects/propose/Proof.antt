@@ -1,4 +1,4 @@
-use Rattle.actions.specs.Perform.{act}
+use Rattle.actions.specs.Perform.{effect}
 use borrow.Author.Needs.{needs}
 use Rattle.actions.proofs.effects.propose.Statement.{statement}
 use Rattle.actions.proofs.effects.propose.Tie as tie
@@ -10,7 +10,7 @@ with-proposals-requires : tie.Need-with-proposals-requires
 with-proposals-requires c κs = search needs
 
 returns : tie.Need-returns
-unfolding act
+unfolding effect
 returns c = rw (← c .before .add-proposal .ensures) (c .with-proposals .ensures)
 
 pub propose-spec : {M : Type 1} → statement M

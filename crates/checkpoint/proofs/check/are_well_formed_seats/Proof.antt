@@ -3,29 +3,27 @@ use mathlib.Core.Path.{_≡_, refl, sym, _∙_}
 use denote.Ref.{now}
 use lib.ListN.{drop}
 use Rattle.lists.specs.Fold.{all}
+use Rattle.binary.specs.Codec.{decodeRows}
 use Rattle.binary.proofs.Rows.{all-row, not-row, all-rows}
+use Rattle.state.specs.Limits.{seatCount}
 use Rattle.state.specs.Seats.{freeSeat}
 use Rattle.state.specs.WellFormed.{isWellFormedSeat}
 use Rattle.checkpoint.specs.Format.{seat}
-use Rattle.checkpoint.specs.Parts.{seatsIn}
 use borrow.Author.Needs.{needs}
 use Rattle.checkpoint.proofs.check.are_well_formed_seats.Statement.{statement}
 use Rattle.checkpoint.proofs.check.are_well_formed_seats.Tie as tie
 
 abbrev Inv-loop : tie.InvT-loop
-Inv-loop b i₀ i = all isWellFormedSeat (seatsIn b) ≡ all isWellFormedSeat (drop i (seatsIn b))
+Inv-loop b i₀ i = all isWellFormedSeat (decodeRows seat seatCount b) ≡ all isWellFormedSeat (drop i (decodeRows seat seatCount b))
 
 abbrev μ-loop : tie.MeasureT-loop
-μ-loop b i₀ i = 32 - i
+μ-loop b i₀ i = seatCount - i
 
 loop-holds : tie.Need-loop-holds Inv-loop μ-loop
 loop-holds c = refl
 
 mul-seat-at : tie.Need-mul-seat-at Inv-loop μ-loop
 mul-seat-at c = search needs
-
-add-seat-at : tie.Need-add-seat-at Inv-loop μ-loop
-add-seat-at c = search needs
 
 seat-at-requires : tie.Need-seat-at-requires Inv-loop μ-loop
 seat-at-requires c κs = search needs
@@ -42,19 +40,21 @@ loop-less c = search needs
 loop-again : tie.Need-loop-again Inv-loop μ-loop
 loop-again c =
     let l = c .before .before .before .before in
-    let step = all-row seat 32 (now (l .before .before .args .b)) 18 (l .loop .i) freeSeat isWellFormedSeat _ (c .before .before .before .loop-test .taken) (c .before .before .seat-at .ensures) _ (c .before .is-well-formed .ensures) (c .if1 .taken) in
+    let step = all-row seat seatCount (now (l .before .before .args .table)) (l .loop .i) freeSeat isWellFormedSeat _
+    (c .before .before .before .loop-test .taken) (c .before .before .seat-at .ensures) _ (c .before .is-well-formed .ensures) (c .if1 .taken) in
     l .loop .inv ∙ step
 
 returns : tie.Need-returns Inv-loop μ-loop
 returns c =
     let l = c .before .before .before .before in
-    let step = not-row seat 32 (now (l .before .before .args .b)) 18 (l .loop .i) freeSeat isWellFormedSeat _ (c .before .before .before .loop-test .taken) (c .before .before .seat-at .ensures) _ (c .before .is-well-formed .ensures) (c .if1 .left) in
+    let step = not-row seat seatCount (now (l .before .before .args .table)) (l .loop .i) freeSeat isWellFormedSeat _
+    (c .before .before .before .loop-test .taken) (c .before .before .seat-at .ensures) _ (c .before .is-well-formed .ensures) (c .if1 .left) in
     sym (l .loop .inv ∙ step)
 
 returns-2 : tie.Need-returns-2 Inv-loop μ-loop
 returns-2 c =
     let l = c .before in
-    sym (l .loop .inv ∙ all-rows seat 32 (now (l .before .before .args .b)) 18 (l .loop .i) freeSeat isWellFormedSeat (c .loop-test .left))
+    sym (l .loop .inv ∙ all-rows seat seatCount (now (l .before .before .args .table)) (l .loop .i) freeSeat isWellFormedSeat (c .loop-test .left))
 
 pub are-well-formed-seats-spec : {M : Type 1} → statement M
 are-well-formed-seats-spec =
@@ -64,7 +64,6 @@ are-well-formed-seats-spec =
     μ-loop
     loop-holds
     mul-seat-at
-    add-seat-at
     seat-at-requires
     is-well-formed-requires
     add-i

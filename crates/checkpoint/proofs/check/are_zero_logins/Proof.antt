@@ -3,29 +3,30 @@ use mathlib.Core.Path.{_≡_, refl, sym, _∙_}
 use denote.Ref.{now}
 use lib.ListN.{drop}
 use Rattle.lists.specs.Fold.{all}
+use Rattle.lists.specs.Code.{isSpare}
+use Rattle.binary.specs.Codec.{decodeRows}
 use Rattle.binary.proofs.Rows.{all-row, not-row, all-rows}
-use Rattle.state.specs.Logins.{noLogin}
-use Rattle.state.specs.WellFormed.{isZeroLogin}
+use Rattle.state.specs.Limits.{loginRows}
+use Rattle.state.specs.Rows.{noLogin, isLogin}
+use Rattle.state.specs.WellFormed.{isBlankLogin}
 use Rattle.checkpoint.specs.Format.{login}
-use Rattle.checkpoint.specs.Parts.{loginsIn}
 use borrow.Author.Needs.{needs}
 use Rattle.checkpoint.proofs.check.are_zero_logins.Statement.{statement}
 use Rattle.checkpoint.proofs.check.are_zero_logins.Tie as tie
 
 abbrev Inv-loop : tie.InvT-loop
-Inv-loop b from i₀ i = (i ≤ 64) × (all isZeroLogin (drop from (loginsIn b)) ≡ all isZeroLogin (drop i (loginsIn b)))
+Inv-loop b from i₀ i = (i ≤ loginRows) ×
+    (all (isSpare isLogin isBlankLogin) (drop from (decodeRows login loginRows b)) ≡ all (isSpare isLogin isBlankLogin)
+    (drop i (decodeRows login loginRows b)))
 
 abbrev μ-loop : tie.MeasureT-loop
-μ-loop b from i₀ i = 64 - i
+μ-loop b from i₀ i = loginRows - i
 
 loop-holds : tie.Need-loop-holds Inv-loop μ-loop
 loop-holds c = (search needs, refl)
 
 mul-login-at : tie.Need-mul-login-at Inv-loop μ-loop
 mul-login-at c = search needs
-
-add-login-at : tie.Need-add-login-at Inv-loop μ-loop
-add-login-at c = search needs
 
 login-at-requires : tie.Need-login-at-requires Inv-loop μ-loop
 login-at-requires c κs = search needs
@@ -42,19 +43,22 @@ loop-less c = search needs
 loop-again : tie.Need-loop-again Inv-loop μ-loop
 loop-again c =
     let l = c .before .before .before .before in
-    let step = all-row login 64 (now (l .before .before .args .b)) 468 (l .loop .i) noLogin isZeroLogin _ (c .before .before .before .loop-test .taken) (c .before .before .login-at .ensures) _ (c .before .is-zero .ensures) (c .if1 .taken) in
+    let step = all-row login loginRows (now (l .before .before .args .table)) (l .loop .i) noLogin (isSpare isLogin isBlankLogin) _
+    (c .before .before .before .loop-test .taken) (c .before .before .login-at .ensures) _ (c .before .is-zero .ensures) (c .if1 .taken) in
     (search needs, l .loop .inv .1 ∙ step)
 
 returns : tie.Need-returns Inv-loop μ-loop
 returns c =
     let l = c .before .before .before .before in
-    let step = not-row login 64 (now (l .before .before .args .b)) 468 (l .loop .i) noLogin isZeroLogin _ (c .before .before .before .loop-test .taken) (c .before .before .login-at .ensures) _ (c .before .is-zero .ensures) (c .if1 .left) in
+    let step = not-row login loginRows (now (l .before .before .args .table)) (l .loop .i) noLogin (isSpare isLogin isBlankLogin) _
+    (c .before .before .before .loop-test .taken) (c .before .before .login-at .ensures) _ (c .before .is-zero .ensures) (c .if1 .left) in
     sym (l .loop .inv .1 ∙ step)
 
 returns-2 : tie.Need-returns-2 Inv-loop μ-loop
 returns-2 c =
     let l = c .before in
-    sym (l .loop .inv .1 ∙ all-rows login 64 (now (l .before .before .args .b)) 468 (l .loop .i) noLogin isZeroLogin (c .loop-test .left))
+    sym (l .loop .inv .1 ∙ all-rows login loginRows (now (l .before .before .args .table)) (l .loop .i) noLogin (isSpare isLogin isBlankLogin)
+    (c .loop-test .left))
 
 pub are-zero-logins-spec : {M : Type 1} → statement M
 are-zero-logins-spec =
@@ -64,7 +68,6 @@ are-zero-logins-spec =
     μ-loop
     loop-holds
     mul-login-at
-    add-login-at
     login-at-requires
     is-zero-requires
     add-i

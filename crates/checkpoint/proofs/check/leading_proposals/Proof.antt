@@ -3,21 +3,25 @@ use mathlib.Core.Path.{_≡_}
 use native.Mathlib.Omega.{arith}
 use denote.Ref.{now}
 use lib.ListN.{drop}
-use Rattle.lists.specs.Table.{leading}
+use Rattle.lists.specs.Code.{isFilled, leading}
+use Rattle.binary.specs.Codec.{decodeRows}
 use Rattle.binary.proofs.Rows.{lead-row, last-row, no-lead}
-use Rattle.state.specs.Proposals.{noProposal}
-use Rattle.state.specs.WellFormed.{isPending}
+use Rattle.state.specs.Limits.{proposalRows}
+use Rattle.state.specs.Rows.{noProposal, isProposal}
+use Rattle.state.specs.WellFormed.{isIntended, cycleOf}
 use Rattle.checkpoint.specs.Format.{proposal}
-use Rattle.checkpoint.specs.Parts.{proposalsIn}
 use borrow.Author.Needs.{needs}
 use Rattle.checkpoint.proofs.check.leading_proposals.Statement.{statement}
 use Rattle.checkpoint.proofs.check.leading_proposals.Tie as tie
 
 abbrev Inv-loop : tie.InvT-loop
-Inv-loop b c d lo₀ i₀ lo i = (i ≤ 16) × ((lo ≤ 4294967296) × (leading (isPending c d) (λ x. x .cycle .0) 0 (proposalsIn b) ≡ i + leading (isPending c d) (λ x. x .cycle .0) lo (drop i (proposalsIn b))))
+Inv-loop b c d lo₀ i₀ lo i =
+    let pending = isFilled isProposal (isIntended c d) in
+    let rows = decodeRows proposal proposalRows b in
+    (i ≤ proposalRows) × ((lo ≤ 4294967296) × (leading pending cycleOf 0 rows ≡ i + leading pending cycleOf lo (drop i rows)))
 
 abbrev μ-loop : tie.MeasureT-loop
-μ-loop b c d lo₀ i₀ lo i = 16 - i
+μ-loop b c d lo₀ i₀ lo i = proposalRows - i
 
 loop-holds : tie.Need-loop-holds Inv-loop μ-loop
 loop-holds c = (omega arith, (omega arith, omega arith))
@@ -25,11 +29,11 @@ loop-holds c = (omega arith, (omega arith, omega arith))
 mul-proposal-at : tie.Need-mul-proposal-at Inv-loop μ-loop
 mul-proposal-at c = search needs
 
-add-proposal-at : tie.Need-add-proposal-at Inv-loop μ-loop
-add-proposal-at c = search needs
-
 proposal-at-requires : tie.Need-proposal-at-requires Inv-loop μ-loop
 proposal-at-requires c κs = search needs
+
+since-requires : tie.Need-since-requires Inv-loop μ-loop
+since-requires c κs = search needs
 
 cast-key : tie.Need-cast-key Inv-loop μ-loop
 cast-key c = search needs
@@ -48,26 +52,37 @@ loop-less c = search needs
 
 loop-again : tie.Need-loop-again Inv-loop μ-loop
 loop-again c =
-    let l = c .before .before .before .before .before in
+    let since = c .before .before in
+    let row = since .before .before in
+    let turn = row .before in
+    let l = turn .before in
     let a = l .before .before .args in
-    let b = now (a .b) in
-    let step = lead-row proposal 16 b 179 (l .loop .i) noProposal (isPending (a .c) (a .d)) _ (c .before .before .before .before .loop-test .taken) (c .before .before .before .proposal-at .ensures) (λ r. r .cycle .0) (l .loop .lo) in
-    (omega arith, (search needs, omega (arith, step (rw (c .before .is-pending .ensures) at (c .if1 .taken)))))
+    let pending = isFilled isProposal (isIntended (a .c) (a .d)) in
+    let test = rw (c .before .is-pending .ensures, since .since .ensures) at (c .if1 .taken) in
+    let step = lead-row proposal proposalRows (now (a .table)) (l .loop .i) noProposal pending _ (turn .loop-test .taken)
+    (row .proposal-at .ensures) in
+    (omega arith, (search needs, rw (since .since .ensures) (omega (arith, step cycleOf (l .loop .lo) test))))
 
 returns : tie.Need-returns Inv-loop μ-loop
 returns c =
-    let l = c .before .before .before .before .before in
+    let since = c .before .before in
+    let row = since .before .before in
+    let turn = row .before in
+    let l = turn .before in
     let a = l .before .before .args in
-    let b = now (a .b) in
-    let step = last-row proposal 16 b 179 (l .loop .i) noProposal (isPending (a .c) (a .d)) _ (c .before .before .before .before .loop-test .taken) (c .before .before .before .proposal-at .ensures) (λ r. r .cycle .0) (l .loop .lo) in
-    (omega (arith, step (rw (c .before .is-pending .ensures) at (c .if1 .left))), omega arith)
+    let pending = isFilled isProposal (isIntended (a .c) (a .d)) in
+    let test = rw (c .before .is-pending .ensures, since .since .ensures) at (c .if1 .left) in
+    let step = last-row proposal proposalRows (now (a .table)) (l .loop .i) noProposal pending _ (turn .loop-test .taken)
+    (row .proposal-at .ensures) in
+    (omega (arith, step cycleOf (l .loop .lo) test), omega arith)
 
 returns-2 : tie.Need-returns-2 Inv-loop μ-loop
 returns-2 c =
     let l = c .before in
     let a = l .before .before .args in
-    let b = now (a .b) in
-    (omega (arith, no-lead proposal 16 b 179 (l .loop .i) noProposal (isPending (a .c) (a .d)) (λ r. r .cycle .0) (l .loop .lo) (c .loop-test .left)), omega arith)
+    let pending = isFilled isProposal (isIntended (a .c) (a .d)) in
+    let end = no-lead proposal proposalRows (now (a .table)) (l .loop .i) noProposal pending cycleOf (l .loop .lo) (c .loop-test .left) in
+    (omega arith, omega arith)
 
 pub leading-proposals-spec : {M : Type 1} → statement M
 leading-proposals-spec =
@@ -77,8 +92,8 @@ leading-proposals-spec =
     μ-loop
     loop-holds
     mul-proposal-at
-    add-proposal-at
     proposal-at-requires
+    since-requires
     cast-key
     is-pending-requires
     add-lo

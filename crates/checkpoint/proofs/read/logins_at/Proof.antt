@@ -4,18 +4,19 @@ use native.Mathlib.Omega.{arith}
 use lib.ListN.{drop}
 use denote.Ref.{now}
 use Rattle.binary.proofs.Rows.{RowsRead, read-none, read-one, read-all}
+use Rattle.state.specs.Limits.{loginRows}
 use Rattle.checkpoint.specs.Format.{login}
 use Rattle.checkpoint.proofs.read.logins_at.Statement.{statement}
 use Rattle.checkpoint.proofs.read.logins_at.Tie as tie
 
 abbrev Inv-loop : tie.InvT-loop
-Inv-loop b at rows₀ i₀ rows i = RowsRead login 64 (drop at b) i rows
+Inv-loop b at rows₀ i₀ rows i = RowsRead login loginRows (drop at b) i rows
 
 abbrev μ-loop : tie.MeasureT-loop
-μ-loop b at rows₀ i₀ rows i = 64 - i
+μ-loop b at rows₀ i₀ rows i = loginRows - i
 
 loop-holds : tie.Need-loop-holds Inv-loop μ-loop
-loop-holds c = read-none login 64 _ _ refl
+loop-holds c = read-none login loginRows _ _ refl
 
 mul-login-at : tie.Need-mul-login-at Inv-loop μ-loop
 mul-login-at c = omega arith
@@ -42,10 +43,10 @@ loop-again : tie.Need-loop-again Inv-loop μ-loop
 loop-again c =
     let l = c .before .before in
     let a = l .before .before .args in
-    read-one login 64 (now (a .b)) (a .at) (l .loop .i) (l .loop .rows) _ (l .loop .inv) (omega arith) (c .login-at .ensures)
+    read-one login loginRows (now (a .b)) (a .at) (l .loop .i) (l .loop .rows) _ (l .loop .inv) (omega arith) (c .login-at .ensures)
 
 returns : tie.Need-returns Inv-loop μ-loop
-returns c = read-all login 64 _ _ _ (c .before .loop .inv) (omega arith)
+returns c = read-all login loginRows _ _ _ (c .before .loop .inv) (omega arith)
 
 pub logins-at-spec : {M : Type 1} → statement M
 logins-at-spec =

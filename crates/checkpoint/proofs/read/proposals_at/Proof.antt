@@ -4,18 +4,19 @@ use native.Mathlib.Omega.{arith}
 use lib.ListN.{drop}
 use denote.Ref.{now}
 use Rattle.binary.proofs.Rows.{RowsRead, read-none, read-one, read-all}
+use Rattle.state.specs.Limits.{proposalRows}
 use Rattle.checkpoint.specs.Format.{proposal}
 use Rattle.checkpoint.proofs.read.proposals_at.Statement.{statement}
 use Rattle.checkpoint.proofs.read.proposals_at.Tie as tie
 
 abbrev Inv-loop : tie.InvT-loop
-Inv-loop b at rows₀ i₀ rows i = RowsRead proposal 16 (drop at b) i rows
+Inv-loop b at rows₀ i₀ rows i = RowsRead proposal proposalRows (drop at b) i rows
 
 abbrev μ-loop : tie.MeasureT-loop
-μ-loop b at rows₀ i₀ rows i = 16 - i
+μ-loop b at rows₀ i₀ rows i = proposalRows - i
 
 loop-holds : tie.Need-loop-holds Inv-loop μ-loop
-loop-holds c = read-none proposal 16 _ _ refl
+loop-holds c = read-none proposal proposalRows _ _ refl
 
 mul-proposal-at : tie.Need-mul-proposal-at Inv-loop μ-loop
 mul-proposal-at c = omega arith
@@ -42,10 +43,10 @@ loop-again : tie.Need-loop-again Inv-loop μ-loop
 loop-again c =
     let l = c .before .before in
     let a = l .before .before .args in
-    read-one proposal 16 (now (a .b)) (a .at) (l .loop .i) (l .loop .rows) _ (l .loop .inv) (omega arith) (c .proposal-at .ensures)
+    read-one proposal proposalRows (now (a .b)) (a .at) (l .loop .i) (l .loop .rows) _ (l .loop .inv) (omega arith) (c .proposal-at .ensures)
 
 returns : tie.Need-returns Inv-loop μ-loop
-returns c = read-all proposal 16 _ _ _ (c .before .loop .inv) (omega arith)
+returns c = read-all proposal proposalRows _ _ _ (c .before .loop .inv) (omega arith)
 
 pub proposals-at-spec : {M : Type 1} → statement M
 proposals-at-spec =

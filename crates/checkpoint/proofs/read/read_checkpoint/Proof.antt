@@ -11,7 +11,8 @@ is-checkpoint-requires : tie.Need-is-checkpoint-requires
 is-checkpoint-requires c κs = search needs
 
 state-in-requires : tie.Need-state-in-requires
-state-in-requires c κs = omega (arith, accepted-size (now (c .before .before .before .args .b)) (sym (c .before .is-checkpoint .ensures) ∙ c .if1 .taken))
+state-in-requires c κs = omega
+    (arith, accepted-size (now (c .before .before .before .args .b)) (sym (c .before .is-checkpoint .ensures) ∙ c .if1 .taken))
 
 returns : tie.Need-returns
 unfolding readCheckpoint

@@ -4,18 +4,19 @@ use native.Mathlib.Omega.{arith}
 use lib.ListN.{drop}
 use denote.Ref.{now}
 use Rattle.binary.proofs.Rows.{RowsRead, read-none, read-one, read-all}
+use Rattle.state.specs.Limits.{seatCount}
 use Rattle.checkpoint.specs.Format.{seat}
 use Rattle.checkpoint.proofs.read.seats_at.Statement.{statement}
 use Rattle.checkpoint.proofs.read.seats_at.Tie as tie
 
 abbrev Inv-loop : tie.InvT-loop
-Inv-loop b at rows₀ i₀ rows i = RowsRead seat 32 (drop at b) i rows
+Inv-loop b at rows₀ i₀ rows i = RowsRead seat seatCount (drop at b) i rows
 
 abbrev μ-loop : tie.MeasureT-loop
-μ-loop b at rows₀ i₀ rows i = 32 - i
+μ-loop b at rows₀ i₀ rows i = seatCount - i
 
 loop-holds : tie.Need-loop-holds Inv-loop μ-loop
-loop-holds c = read-none seat 32 _ _ refl
+loop-holds c = read-none seat seatCount _ _ refl
 
 mul-seat-at : tie.Need-mul-seat-at Inv-loop μ-loop
 mul-seat-at c = omega arith
@@ -42,10 +43,10 @@ loop-again : tie.Need-loop-again Inv-loop μ-loop
 loop-again c =
     let l = c .before .before in
     let a = l .before .before .args in
-    read-one seat 32 (now (a .b)) (a .at) (l .loop .i) (l .loop .rows) _ (l .loop .inv) (omega arith) (c .seat-at .ensures)
+    read-one seat seatCount (now (a .b)) (a .at) (l .loop .i) (l .loop .rows) _ (l .loop .inv) (omega arith) (c .seat-at .ensures)
 
 returns : tie.Need-returns Inv-loop μ-loop
-returns c = read-all seat 32 _ _ _ (c .before .loop .inv) (omega arith)
+returns c = read-all seat seatCount _ _ _ (c .before .loop .inv) (omega arith)
 
 pub seats-at-spec : {M : Type 1} → statement M
 seats-at-spec =

@@ -3,19 +3,20 @@ use Prim.Native.Nat.{_-_}
 use native.Mathlib.Omega.{arith}
 use denote.Ref.{now}
 use Rattle.binary.proofs.Rows.{RowsWritten, written-none, written-one, written-all}
+use Rattle.state.specs.Limits.{loginRows}
 use Rattle.checkpoint.specs.Format.{login}
-use Rattle.checkpoint.proofs.Parts.{login-size}
+use Rattle.checkpoint.proofs.Written.{login-size}
 use Rattle.checkpoint.proofs.write.put_logins.Statement.{statement}
 use Rattle.checkpoint.proofs.write.put_logins.Tie as tie
 
 abbrev Inv-loop : tie.InvT-loop
-Inv-loop out₀ at rows i₀ out i = RowsWritten login 64 rows out₀ at i out
+Inv-loop out₀ at rows i₀ out i = RowsWritten login loginRows rows out₀ at i out
 
 abbrev μ-loop : tie.MeasureT-loop
-μ-loop out₀ at rows i₀ out i = 64 - i
+μ-loop out₀ at rows i₀ out i = loginRows - i
 
 loop-holds : tie.Need-loop-holds Inv-loop μ-loop
-loop-holds c = written-none login 64 _ _ _
+loop-holds c = written-none login loginRows _ _ _
 
 mul-put-login : tie.Need-mul-put-login Inv-loop μ-loop
 mul-put-login c = omega arith
@@ -42,13 +43,14 @@ loop-again : tie.Need-loop-again Inv-loop μ-loop
 loop-again c =
     let l = c .before .before .before .before .before .before in
     let a = l .before .before .args in
-    written-one login login-size 64 (a .t3) (now (a .out)) (a .at) (l .loop .i) (l .loop .out) _ _ (l .loop .inv) (search needs) (omega arith) (omega arith) (c .before .before .put-login .kept .0) (c .before .before .put-login .ensures)
+    written-one login login-size loginRows (a .t3) (now (a .out)) (a .at) (l .loop .i) (l .loop .out) _ _ (l .loop .inv) (search needs) (omega arith)
+    (omega arith) (c .before .before .put-login .kept .0) (c .before .before .put-login .ensures)
 
 same-length : tie.Need-same-length Inv-loop μ-loop
 same-length c = c .before .loop .inv .same-length
 
 returns : tie.Need-returns Inv-loop μ-loop
-returns c = written-all login 64 (c .before .before .before .args .t3) _ _ _ _ (c .before .loop .inv) (search needs) (omega arith)
+returns c = written-all login loginRows (c .before .before .before .args .t3) _ _ _ _ (c .before .loop .inv) (search needs) (omega arith)
 
 pub put-logins-spec : {M : Type 1} → statement M
 put-logins-spec =

@@ -2,22 +2,37 @@ use mathlib.Core.Path.{refl}
 use native.Mathlib.Omega.{arith}
 use Rattle.binary.specs.Number.{toBytes}
 use Rattle.binary.proofs.Splices.{then-put}
-use Rattle.checkpoint.specs.Parts.{parameterBytes}
+use Rattle.checkpoint.specs.Code.{parameterBytes}
 use borrow.Author.Needs.{needs}
 use Rattle.checkpoint.proofs.write.put_parameters.Statement.{statement}
 use Rattle.checkpoint.proofs.write.put_parameters.Tie as tie
 
+add-put-u8 : tie.Need-add-put-u8
+add-put-u8 c = search needs
+
 put-u8-requires : tie.Need-put-u8-requires
 put-u8-requires c κs = search needs
+
+add-put-u8-2 : tie.Need-add-put-u8-2
+add-put-u8-2 c = search needs
 
 put-u8-requires-2 : tie.Need-put-u8-requires-2
 put-u8-requires-2 c κs = search needs
 
+add-put-u8-3 : tie.Need-add-put-u8-3
+add-put-u8-3 c = search needs
+
 put-u8-requires-3 : tie.Need-put-u8-requires-3
 put-u8-requires-3 c κs = search needs
 
+add-put-u8-4 : tie.Need-add-put-u8-4
+add-put-u8-4 c = search needs
+
 put-u8-requires-4 : tie.Need-put-u8-requires-4
 put-u8-requires-4 c κs = search needs
+
+add-put-u16 : tie.Need-add-put-u16
+add-put-u16 c = search needs
 
 put-u16-requires : tie.Need-put-u16-requires
 put-u16-requires c κs = search needs
@@ -28,25 +43,30 @@ same-length c = search needs
 returns : tie.Need-returns
 unfolding toBytes parameterBytes
 returns c =
-    let s = c .before .before in
-    let k = s .before .before .before .before in
-    let m = k .before .before .before .before in
-    let j = m .before .before .before .before in
-    let i = j .before .before .before .before in
-    then-put _ _ _ _ _ _ _ (s .put-u16 .ensures)
-    (then-put _ _ _ _ _ _ _ (k .put-u84 .ensures)
-    (then-put _ _ _ _ _ _ _ (m .put-u83 .ensures)
-    (then-put _ _ _ _ _ _ _ (j .put-u82 .ensures)
-    (i .put-u8 .ensures) refl (omega arith)) refl (omega arith)) refl (omega arith)) refl (omega arith)
+    let silence = c .before .before in
+    let least = silence .before .before .before .before in
+    let margin = least .before .before .before .before in
+    let two = margin .before .before .before .before in
+    let one = two .before .before .before .before in
+    then-put _ _ _ _ _ _ _ (silence .put-u16 .ensures)
+    (then-put _ _ _ _ _ _ _ (least .put-u84 .ensures)
+    (then-put _ _ _ _ _ _ _ (margin .put-u83 .ensures)
+    (then-put _ _ _ _ _ _ _ (two .put-u82 .ensures)
+    (one .put-u8 .ensures) refl (omega arith)) refl (omega arith)) refl (omega arith)) refl (omega arith)
 
 pub put-parameters-spec : {M : Type 1} → statement M
 put-parameters-spec =
     tie.close
     (tie.spec
+    add-put-u8
     put-u8-requires
+    add-put-u8-2
     put-u8-requires-2
+    add-put-u8-3
     put-u8-requires-3
+    add-put-u8-4
     put-u8-requires-4
+    add-put-u16
     put-u16-requires
     same-length
     returns)

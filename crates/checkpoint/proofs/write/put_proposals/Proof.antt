@@ -3,19 +3,20 @@ use Prim.Native.Nat.{_-_}
 use native.Mathlib.Omega.{arith}
 use denote.Ref.{now}
 use Rattle.binary.proofs.Rows.{RowsWritten, written-none, written-one, written-all}
+use Rattle.state.specs.Limits.{proposalRows}
 use Rattle.checkpoint.specs.Format.{proposal}
-use Rattle.checkpoint.proofs.Parts.{proposal-size}
+use Rattle.checkpoint.proofs.Written.{proposal-size}
 use Rattle.checkpoint.proofs.write.put_proposals.Statement.{statement}
 use Rattle.checkpoint.proofs.write.put_proposals.Tie as tie
 
 abbrev Inv-loop : tie.InvT-loop
-Inv-loop out₀ at rows i₀ out i = RowsWritten proposal 16 rows out₀ at i out
+Inv-loop out₀ at rows i₀ out i = RowsWritten proposal proposalRows rows out₀ at i out
 
 abbrev μ-loop : tie.MeasureT-loop
-μ-loop out₀ at rows i₀ out i = 16 - i
+μ-loop out₀ at rows i₀ out i = proposalRows - i
 
 loop-holds : tie.Need-loop-holds Inv-loop μ-loop
-loop-holds c = written-none proposal 16 _ _ _
+loop-holds c = written-none proposal proposalRows _ _ _
 
 mul-put-proposal : tie.Need-mul-put-proposal Inv-loop μ-loop
 mul-put-proposal c = omega arith
@@ -42,13 +43,14 @@ loop-again : tie.Need-loop-again Inv-loop μ-loop
 loop-again c =
     let l = c .before .before .before .before .before .before in
     let a = l .before .before .args in
-    written-one proposal proposal-size 16 (a .t3) (now (a .out)) (a .at) (l .loop .i) (l .loop .out) _ _ (l .loop .inv) (search needs) (omega arith) (omega arith) (c .before .before .put-proposal .kept .0) (c .before .before .put-proposal .ensures)
+    written-one proposal proposal-size proposalRows (a .t3) (now (a .out)) (a .at) (l .loop .i) (l .loop .out) _ _ (l .loop .inv) (search needs)
+    (omega arith) (omega arith) (c .before .before .put-proposal .kept .0) (c .before .before .put-proposal .ensures)
 
 same-length : tie.Need-same-length Inv-loop μ-loop
 same-length c = c .before .loop .inv .same-length
 
 returns : tie.Need-returns Inv-loop μ-loop
-returns c = written-all proposal 16 (c .before .before .before .args .t3) _ _ _ _ (c .before .loop .inv) (search needs) (omega arith)
+returns c = written-all proposal proposalRows (c .before .before .before .args .t3) _ _ _ _ (c .before .loop .inv) (search needs) (omega arith)
 
 pub put-proposals-spec : {M : Type 1} → statement M
 put-proposals-spec =

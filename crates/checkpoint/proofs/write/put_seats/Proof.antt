@@ -3,19 +3,20 @@ use Prim.Native.Nat.{_-_}
 use native.Mathlib.Omega.{arith}
 use denote.Ref.{now}
 use Rattle.binary.proofs.Rows.{RowsWritten, written-none, written-one, written-all}
+use Rattle.state.specs.Limits.{seatCount}
 use Rattle.checkpoint.specs.Format.{seat}
-use Rattle.checkpoint.proofs.Parts.{seat-size}
+use Rattle.checkpoint.proofs.Written.{seat-size}
 use Rattle.checkpoint.proofs.write.put_seats.Statement.{statement}
 use Rattle.checkpoint.proofs.write.put_seats.Tie as tie
 
 abbrev Inv-loop : tie.InvT-loop
-Inv-loop out₀ at rows i₀ out i = RowsWritten seat 32 rows out₀ at i out
+Inv-loop out₀ at rows i₀ out i = RowsWritten seat seatCount rows out₀ at i out
 
 abbrev μ-loop : tie.MeasureT-loop
-μ-loop out₀ at rows i₀ out i = 32 - i
+μ-loop out₀ at rows i₀ out i = seatCount - i
 
 loop-holds : tie.Need-loop-holds Inv-loop μ-loop
-loop-holds c = written-none seat 32 _ _ _
+loop-holds c = written-none seat seatCount _ _ _
 
 mul-put-seat : tie.Need-mul-put-seat Inv-loop μ-loop
 mul-put-seat c = omega arith
@@ -42,13 +43,14 @@ loop-again : tie.Need-loop-again Inv-loop μ-loop
 loop-again c =
     let l = c .before .before .before .before .before .before in
     let a = l .before .before .args in
-    written-one seat seat-size 32 (a .t3) (now (a .out)) (a .at) (l .loop .i) (l .loop .out) _ _ (l .loop .inv) (search needs) (omega arith) (omega arith) (c .before .before .put-seat .kept .0) (c .before .before .put-seat .ensures)
+    written-one seat seat-size seatCount (a .t3) (now (a .out)) (a .at) (l .loop .i) (l .loop .out) _ _ (l .loop .inv) (search needs) (omega arith)
+    (omega arith) (c .before .before .put-seat .kept .0) (c .before .before .put-seat .ensures)
 
 same-length : tie.Need-same-length Inv-loop μ-loop
 same-length c = c .before .loop .inv .same-length
 
 returns : tie.Need-returns Inv-loop μ-loop
-returns c = written-all seat 32 (c .before .before .before .args .t3) _ _ _ _ (c .before .loop .inv) (search needs) (omega arith)
+returns c = written-all seat seatCount (c .before .before .before .args .t3) _ _ _ _ (c .before .loop .inv) (search needs) (omega arith)
 
 pub put-seats-spec : {M : Type 1} → statement M
 put-seats-spec =

@@ -5,21 +5,23 @@ use denote.Ref.{now}
 use lib.ListN.{length}
 use Rattle.binary.proofs.Splices.{first-put, next-put, all-put}
 use Rattle.binary.proofs.Rows.{rows-size}
+use Rattle.state.specs.Limits.{seatCount, proposalRows, loginRows}
+use Rattle.checkpoint.specs.Layout.{checkpointSize, seatsAt, proposalCountAt, proposalsAt, loginCountAt, loginsAt}
 use Rattle.checkpoint.specs.Format.{seat, proposal, login}
-use Rattle.checkpoint.specs.Parts.{tableBytes}
-use Rattle.checkpoint.proofs.Parts.{seat-size, proposal-size, login-size}
+use Rattle.checkpoint.specs.Code.{tableBytes}
+use Rattle.checkpoint.proofs.Written.{seat-size, proposal-size, login-size}
 use borrow.Author.Needs.{needs}
 use Rattle.checkpoint.proofs.write.put_tables.Statement.{statement}
 use Rattle.checkpoint.proofs.write.put_tables.Tie as tie
 
 -- The number of rows of each table.
-seat-rows : (c : tie.Start) → length (c .args .seats) ≡ 32
+seat-rows : (c : tie.Start) → length (c .args .seats) ≡ seatCount
 seat-rows c = search needs
 
-proposal-rows : (c : tie.Start) → length (c .args .proposals) ≡ 16
+proposal-rows : (c : tie.Start) → length (c .args .proposals) ≡ proposalRows
 proposal-rows c = search needs
 
-login-rows : (c : tie.Start) → length (c .args .logins) ≡ 64
+login-rows : (c : tie.Start) → length (c .args .logins) ≡ loginRows
 login-rows c = search needs
 
 put-seats-requires : tie.Need-put-seats-requires
@@ -57,12 +59,14 @@ returns c =
     let z = s .before .before .before in
     let a = z .args in
     let d = now (a .out) in
-    let w₁ = first-put d _ _ 18 160 (s .put-seats .ensures) (rows-size seat seat-size 32 (a .seats) (seat-rows z)) in
-    let w₂ = next-put d _ _ _ _ 18 178 1 w₁ (n .put-u8 .ensures) refl (omega arith) in
-    let w₃ = next-put d _ _ _ _ 18 179 288 w₂ (p .put-proposals .ensures) (rows-size proposal proposal-size 16 (a .proposals) (proposal-rows z)) (omega arith) in
-    let w₄ = next-put d _ _ _ _ 18 467 1 w₃ (k .put-u82 .ensures) refl (omega arith) in
-    let w₅ = next-put d _ _ _ _ 18 468 640 w₄ (l .put-logins .ensures) (rows-size login login-size 64 (a .logins) (login-rows z)) (omega arith) in
-    all-put d _ _ _ 18 1108 w₅ (rw (n .before .count-proposals .ensures, k .before .count-logins .ensures) (simp append-assoc))
+    let w₁ = first-put d _ _ seatsAt 160 (s .put-seats .ensures) (rows-size seat seat-size seatCount (a .seats) (seat-rows z)) in
+    let w₂ = next-put d _ _ _ _ seatsAt proposalCountAt 1 w₁ (n .put-u8 .ensures) refl (omega arith) in
+    let w₃ = next-put d _ _ _ _ seatsAt proposalsAt 288 w₂ (p .put-proposals .ensures)
+    (rows-size proposal proposal-size proposalRows (a .proposals) (proposal-rows z)) (omega arith) in
+    let w₄ = next-put d _ _ _ _ seatsAt loginCountAt 1 w₃ (k .put-u82 .ensures) refl (omega arith) in
+    let w₅ = next-put d _ _ _ _ seatsAt loginsAt 640 w₄ (l .put-logins .ensures) (rows-size login login-size loginRows (a .logins) (login-rows z))
+    (omega arith) in
+    all-put d _ _ _ seatsAt checkpointSize w₅ (rw (n .before .count-proposals .ensures, k .before .count-logins .ensures) (simp append-assoc))
 
 pub put-tables-spec : {M : Type 1} → statement M
 put-tables-spec =

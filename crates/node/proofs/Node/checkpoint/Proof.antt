@@ -1,12 +1,13 @@
+use Rattle.checkpoint.specs.Layout.{checkpointSize}
 use borrow.Author.Tests.{le-leb, lt-leb}
-use Rattle.node.specs.Give.{checkpointOf, checkpointSlice}
+use Rattle.node.specs.Checkpoint.{checkpointOf, checkpointSlice}
 use borrow.Author.Needs.{needs}
 use Rattle.node.proofs.Node.checkpoint.Statement.{statement}
 use Rattle.node.proofs.Node.checkpoint.Tie as tie
 
 returns : tie.Need-returns
 unfolding checkpointOf checkpointSlice
-returns c = (rw (lt-leb 1108 _ (c .if1 .taken)), rw (lt-leb 1108 _ (c .if1 .taken)))
+returns c = (rw (lt-leb checkpointSize _ (c .if1 .taken)), rw (lt-leb checkpointSize _ (c .if1 .taken)))
 
 write-checkpoint-requires : tie.Need-write-checkpoint-requires
 write-checkpoint-requires c κs = search needs
@@ -16,7 +17,10 @@ same-length c = search needs
 
 returns-2 : tie.Need-returns-2
 unfolding checkpointOf checkpointSlice
-returns-2 c = (rw (le-leb 1108 _ (c .before .before .before .before .before .if1 .left)), rw (c .before .before .write-checkpoint .ensures, le-leb 1108 _ (c .before .before .before .before .before .if1 .left)))
+returns-2 c =
+    let written = c .before .before in
+    let room = le-leb checkpointSize _ (written .before .before .before .if1 .left) in
+    (rw room, rw (written .write-checkpoint .ensures, room))
 
 pub checkpoint-spec : {M : Type 1} → statement M
 checkpoint-spec = tie.close (tie.spec returns write-checkpoint-requires same-length returns-2)

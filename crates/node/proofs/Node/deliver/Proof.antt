@@ -26,18 +26,34 @@ is-sheet-requires : tie.Need-is-sheet-requires
 is-sheet-requires c κs = search needs
 
 deliver-read-requires : tie.Need-deliver-read-requires
-deliver-read-requires c κs = (announcement-size (now (c .before .before .before .before .before .before .before .before .args .announcement)) _ (sym (c .before .before .before .before .before .read-announcement .ensures) ∙ c .before .before .before .read .given .1), sym (c .before .is-sheet .ensures) ∙ c .if1 .taken)
+deliver-read-requires c κs =
+    let told = c .before .before .before in
+    let read = told .before .before in
+    let a = read .before .before .before .args in (
+      announcement-size (now (a .announcement)) _ (sym (read .read-announcement .ensures) ∙ told .read .given .1),
+      sym (c .before .is-sheet .ensures) ∙ c .if1 .taken,
+    )
 
 returns-2 : tie.Need-returns-2
 unfolding deliverOf
-returns-2 c = rw (← c .before .before .before .before .before .before .read-announcement .ensures, c .before .before .before .before .read .given .1, sym (c .before .before .is-sheet .ensures) ∙ c .before .if1 .taken) (c .deliver-read .ensures)
+returns-2 c =
+    let sheet = c .before .before in
+    let told = sheet .before .before in
+    let read = told .before .before in
+    rw (← read .read-announcement .ensures, told .read .given .1, sym (sheet .is-sheet .ensures) ∙ c .before .if1 .taken)
+    (c .deliver-read .ensures)
 
 refuse-delivery-requires-2 : tie.Need-refuse-delivery-requires-2
 refuse-delivery-requires-2 c κs = search needs
 
 returns-3 : tie.Need-returns-3
 unfolding deliverOf
-returns-3 c = rw (← c .before .before .before .before .before .before .read-announcement .ensures, c .before .before .before .before .read .given .1, sym (c .before .before .is-sheet .ensures) ∙ c .before .if1 .left) (c .refuse-delivery2 .ensures)
+returns-3 c =
+    let sheet = c .before .before in
+    let told = sheet .before .before in
+    let read = told .before .before in
+    rw (← read .read-announcement .ensures, told .read .given .1, sym (sheet .is-sheet .ensures) ∙ c .before .if1 .left)
+    (c .refuse-delivery2 .ensures)
 
 pub deliver-spec : {M : Type 1} → statement M
 deliver-spec =

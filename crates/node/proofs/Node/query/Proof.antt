@@ -1,8 +1,9 @@
-use mathlib.Core.Path.{sym, _∙_}
 use native.Mathlib.Omega.{arith}
+use mathlib.Core.Path.{sym, _∙_}
+use mathlib.Core.Bool.{false≢true}
 use denote.Ref.{now}
 use Rattle.node.specs.Query.{queryOf}
-use Rattle.node.proofs.Query.{Why, why}
+use Rattle.node.proofs.Query.{Why, why, adds-from}
 use borrow.Author.Needs.{needs}
 use Rattle.node.proofs.Node.query.Statement.{statement}
 use Rattle.node.proofs.Node.query.Tie as tie
@@ -17,7 +18,7 @@ enum-told : tie.Need-enum-told
 enum-told c = search needs
 
 reply-to-query-requires : tie.Need-reply-to-query-requires
-reply-to-query-requires c κs = search needs
+reply-to-query-requires c κs = λ h. absurd (let l = adds-from 1 h in omega arith)
 
 returns : tie.Need-returns
 unfolding queryOf
@@ -29,14 +30,19 @@ query-refusal-requires c κs = search needs
 reply-to-query-requires-2 : tie.Need-reply-to-query-requires-2
 unfolding Why
 reply-to-query-requires-2 c κs =
-    λ h.
-    let a = c .before .before .before .before .before .before .args in
+    let told = c .before .before .before .before in
+    let read = told .before .before in
+    let a = read .before .before .args in
     let e = c .query-refusal .ensures in
-    why (a .self) (now (a .query)) _ (sym (c .before .before .before .before .read-query .ensures) ∙ c .before .before .read .given .1) (c .query-refusal .result) (omega arith) (sym e) .1 h
+    λ h.
+    let l = adds-from (c .query-refusal .result) h in
+    why (a .self) (now (a .query)) _ (sym (read .read-query .ensures) ∙ told .read .given .1) (c .query-refusal .result) (omega arith) (sym e) .1 h
 
 returns-2 : tie.Need-returns-2
 unfolding queryOf
-returns-2 c = rw (← c .before .before .before .before .before .read-query .ensures, c .before .before .before .read .given .1, ← c .before .query-refusal .ensures) (c .reply-to-query2 .ensures)
+returns-2 c =
+    let told = c .before .before .before .before .before in
+    rw (← told .before .before .read-query .ensures, told .read .given .1, ← c .before .query-refusal .ensures) (c .reply-to-query2 .ensures)
 
 pub query-spec : {M : Type 1} → statement M
 query-spec =

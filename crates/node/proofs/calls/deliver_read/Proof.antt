@@ -13,7 +13,9 @@ refuse-delivery-requires c κs = search needs
 
 returns : tie.Need-returns
 unfolding deliverRead
-returns c = rw (← c .before .before .deliver-refusal .ensures, ne-eqb (c .before .before .deliver-refusal .result) 0 (c .before .if1 .taken)) (c .refuse-delivery .ensures)
+returns c =
+    let rules = c .before .before in
+    rw (← rules .deliver-refusal .ensures, ne-eqb (rules .deliver-refusal .result) 0 (c .before .if1 .taken)) (c .refuse-delivery .ensures)
 
 shows-quorum-requires : tie.Need-shows-quorum-requires
 shows-quorum-requires c κs = search needs
@@ -23,7 +25,15 @@ perform-delivery-requires c κs = search needs
 
 returns-2 : tie.Need-returns-2
 unfolding deliverRead
-returns-2 c = rw (← c .before .before .before .before .before .deliver-refusal .ensures, eq-eqb (c .before .before .before .before .before .deliver-refusal .result) 0 (c .before .before .before .before .if1 .left), sym (c .before .before .shows-quorum .ensures) ∙ c .before .if2 .taken) (c .perform-delivery .ensures)
+returns-2 c =
+    let quorum = c .before .before in
+    let passed = quorum .before in
+    let rules = passed .before in
+    rw (
+      ← rules .deliver-refusal .ensures,
+      eq-eqb (rules .deliver-refusal .result) 0 (passed .if1 .left),
+      sym (quorum .shows-quorum .ensures) ∙ c .before .if2 .taken,
+    ) (c .perform-delivery .ensures)
 
 vote-refusal-requires : tie.Need-vote-refusal-requires
 vote-refusal-requires c κs = search needs
@@ -33,14 +43,40 @@ refuse-delivery-requires-2 c κs = search needs
 
 returns-3 : tie.Need-returns-3
 unfolding deliverRead
-returns-3 c = rw (← c .before .before .before .before .before .before .before .deliver-refusal .ensures, eq-eqb (c .before .before .before .before .before .before .before .deliver-refusal .result) 0 (c .before .before .before .before .before .before .if1 .left), sym (c .before .before .before .before .shows-quorum .ensures) ∙ c .before .before .before .if2 .left, ← c .before .before .vote-refusal .ensures, ne-eqb (c .before .before .vote-refusal .result) 0 (c .before .if3 .taken)) (c .refuse-delivery2 .ensures)
+returns-3 c =
+    let vote = c .before .before in
+    let few = vote .before in
+    let passed = few .before .before in
+    let rules = passed .before in
+    rw (
+      ← rules .deliver-refusal .ensures,
+      eq-eqb (rules .deliver-refusal .result) 0 (passed .if1 .left),
+      sym (few .before .shows-quorum .ensures) ∙ few .if2 .left,
+      ← vote .vote-refusal .ensures,
+      ne-eqb (vote .vote-refusal .result) 0
+          (c .before .if3 .taken),
+    )
+    (c .refuse-delivery2 .ensures)
 
 vote-for-requires : tie.Need-vote-for-requires
 vote-for-requires c κs = search needs
 
 returns-4 : tie.Need-returns-4
 unfolding deliverRead
-returns-4 c = rw (← c .before .before .before .before .before .before .before .deliver-refusal .ensures, eq-eqb (c .before .before .before .before .before .before .before .deliver-refusal .result) 0 (c .before .before .before .before .before .before .if1 .left), sym (c .before .before .before .before .shows-quorum .ensures) ∙ c .before .before .before .if2 .left, ← c .before .before .vote-refusal .ensures, eq-eqb (c .before .before .vote-refusal .result) 0 (c .before .if3 .left)) (c .vote-for .ensures)
+returns-4 c =
+    let vote = c .before .before in
+    let few = vote .before in
+    let passed = few .before .before in
+    let rules = passed .before in
+    rw (
+      ← rules .deliver-refusal .ensures,
+      eq-eqb (rules .deliver-refusal .result) 0 (passed .if1 .left),
+      sym (few .before .shows-quorum .ensures) ∙ few .if2 .left,
+      ← vote .vote-refusal .ensures,
+      eq-eqb (vote .vote-refusal .result) 0
+          (c .before .if3 .left),
+    )
+    (c .vote-for .ensures)
 
 pub deliver-read-spec : {M : Type 1} → statement M
 deliver-read-spec =

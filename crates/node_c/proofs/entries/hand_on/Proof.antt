@@ -1,3 +1,4 @@
+use Rattle.image.specs.Layout.{imageSize}
 use mathlib.Core.Path.{sym, ap, _∙_}
 use denote.Ref.{now}
 use lib.Dec.{leb}
@@ -20,7 +21,7 @@ put-image-requires c κs =
     let w = c .before .before in
     let s = w .before .before .before .before in
     let e = ap writesImage (sym (w .before .try-room .ensures)) ∙ sym (w .writes-image .ensures) ∙ c .before .if1 .taken in
-    let p = writes-in-room (leb 1139 (length (now (s .args .out)))) (s .args .k) e in
+    let p = writes-in-room (leb imageSize (length (now (s .args .out)))) (s .args .k) e in
     (s .pre (p .1), leb-true _ _ (p .0))
 
 same-length : tie.Need-same-length
@@ -28,8 +29,11 @@ same-length c = search needs
 
 returns : tie.Need-returns
 returns c =
-    let w = c .before .before .before .before .before in
-    (w .before .try-room .ensures, rw (sym (w .writes-image .ensures) ∙ c .before .before .before .before .if1 .taken) (c .before .before .put-image .ensures))
+    let w = c .before .before .before .before .before in (
+      w .before .try-room .ensures,
+      rw (sym (w .writes-image .ensures) ∙ c .before .before .before .before .if1 .taken)
+          (c .before .before .put-image .ensures),
+    )
 
 returns-2 : tie.Need-returns-2
 returns-2 c = (c .before .before .try-room .ensures, rw (sym (c .before .writes-image .ensures) ∙ c .if1 .left))

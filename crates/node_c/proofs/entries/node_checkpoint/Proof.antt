@@ -3,8 +3,8 @@ use mathlib.Core.Bool.{true}
 use mathlib.Core.Path.{_≡_, sym, _∙_}
 use denote.Ref.{now}
 use Rattle.node_c.specs.Calls.{nodeCheckpoint}
-use Rattle.node_c.specs.Image.{isImage, readImage}
-use Rattle.node_c.proofs.Image.{image-size}
+use Rattle.image.specs.Image.{isImage, readImage}
+use Rattle.image.proofs.RoundTrips.{image-size}
 use borrow.Author.Needs.{needs}
 use Rattle.node_c.proofs.entries.node_checkpoint.Statement.{statement}
 use Rattle.node_c.proofs.entries.node_checkpoint.Tie as tie
@@ -32,8 +32,11 @@ unfolding nodeCheckpoint readImage
 returns c =
     let k = c .before .before .before in
     let n = k .before .before in
-    let e = accepted (n .before) in
-    (rw (e, ← n .node-in .ensures, ← k .checkpoint .ensures .0) (c .checkpoint-number .ensures), rw (e, ← n .node-in .ensures) (k .checkpoint .ensures .1))
+    let e = accepted (n .before) in (
+      rw (e, ← n .node-in .ensures, ← k .checkpoint .ensures .0) (c .checkpoint-number .ensures),
+      rw (e, ← n .node-in .ensures)
+          (k .checkpoint .ensures .1),
+    )
 
 returns-2 : tie.Need-returns-2
 unfolding nodeCheckpoint readImage

@@ -1,3 +1,4 @@
+use Rattle.checkpoint.specs.Layout.{checkpointSize}
 use native.Mathlib.Omega.{arith}
 use mathlib.Core.Bool.{true}
 use mathlib.Core.Path.{_≡_, sym, _∙_}
@@ -6,8 +7,8 @@ use lib.ListN.{take}
 use Rattle.checkpoint.specs.Claims.{ReadState}
 use Rattle.node.proofs.Deliver.{deliver-keeps-state}
 use Rattle.node_c.specs.Calls.{nodeDeliver, onImage}
-use Rattle.node_c.specs.Image.{isImage, readImage}
-use Rattle.node_c.proofs.Image.{image-size, image-state}
+use Rattle.image.specs.Image.{isImage, readImage}
+use Rattle.image.proofs.RoundTrips.{image-size, image-state}
 use Rattle.node_c.proofs.Kept.{handed-on, on-image}
 use borrow.Author.Needs.{needs}
 use Rattle.node_c.proofs.entries.node_deliver.Statement.{statement}
@@ -18,7 +19,8 @@ accepted c = sym (c .before .is-image .ensures) ∙ c .if1 .taken
 
 -- The state that is handed back with another number than 0 is the one in the image's bytes.
 kept : (c : tie.Else2) → let d = c .before .before .before in
-    ReadState (take 1108 (now (d .before .before .before .before .before .before .before .before .args .image))) (d .deliver .result .node .state)
+    ReadState (take checkpointSize (now (d .before .before .before .before .before .before .before .before .args .image)))
+    (d .deliver .result .node .state)
 kept c =
     let k = c .before in
     let d = k .before .before in
@@ -52,7 +54,13 @@ returns c =
     let t = c .before .before .before .before in
     let k = t .before in
     let d = k .before .before in
-    rw (on-image _ _ _ (accepted (d .before .before)), ← d .before .node-in .ensures, ← d .deliver .ensures, ← k .deliver-number .ensures, t .if2 .taken) (c .before .before .hand-out .ensures)
+    rw (
+      on-image _ _ _ (accepted (d .before .before)),
+      ← d .before .node-in .ensures,
+      ← d .deliver .ensures,
+      ← k .deliver-number .ensures,
+      t .if2 .taken,
+    ) (c .before .before .hand-out .ensures)
 
 sub-hand-on : tie.Need-sub-hand-on
 sub-hand-on c = search needs
@@ -75,7 +83,8 @@ returns-2 c =
     let t = c .before .before .before .before .before in
     let k = t .before in
     let d = k .before .before in
-    rw (on-image _ _ _ (accepted (d .before .before)), ← d .before .node-in .ensures, ← d .deliver .ensures, ← k .deliver-number .ensures) (handed-on _ _ _ (λ _. kept t) _ _ (c .before .before .hand-on .ensures))
+    rw (on-image _ _ _ (accepted (d .before .before)), ← d .before .node-in .ensures, ← d .deliver .ensures, ← k .deliver-number .ensures)
+    (handed-on _ _ _ (λ _. kept t) _ _ (c .before .before .hand-on .ensures))
 
 returns-3 : tie.Need-returns-3
 unfolding nodeDeliver onImage readImage

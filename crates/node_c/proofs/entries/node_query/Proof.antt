@@ -1,3 +1,4 @@
+use Rattle.checkpoint.specs.Layout.{checkpointSize}
 use native.Mathlib.Omega.{arith}
 use mathlib.Core.Bool.{true}
 use mathlib.Core.Path.{_≡_, sym, _∙_}
@@ -6,8 +7,8 @@ use lib.ListN.{take}
 use Rattle.checkpoint.specs.Claims.{ReadState}
 use Rattle.node.proofs.Query.{query-keeps-state}
 use Rattle.node_c.specs.Calls.{nodeQuery, onImage}
-use Rattle.node_c.specs.Image.{isImage, readImage}
-use Rattle.node_c.proofs.Image.{image-size, image-state}
+use Rattle.image.specs.Image.{isImage, readImage}
+use Rattle.image.proofs.RoundTrips.{image-size, image-state}
 use Rattle.node_c.proofs.Kept.{handed-on, on-image}
 use borrow.Author.Needs.{needs}
 use Rattle.node_c.proofs.entries.node_query.Statement.{statement}
@@ -17,7 +18,8 @@ accepted : (c : tie.Then1) → isImage (now (c .before .before .before .before .
 accepted c = sym (c .before .is-image .ensures) ∙ c .if1 .taken
 
 -- The state that is handed back is the one in the image's bytes.
-kept : (c : tie.After-query) → ReadState (take 1108 (now (c .before .before .before .before .before .before .before .args .image))) (c .query .result .node .state)
+kept : (c : tie.After-query) → ReadState (take checkpointSize (now (c .before .before .before .before .before .before .before .args .image)))
+    (c .query .result .node .state)
 kept c =
     let n = c .before in
     let b = n .before .before .before .before .before in
@@ -56,7 +58,8 @@ unfolding nodeQuery
 returns c =
     let k = c .before .before .before .before in
     let q = k .before .before .before in
-    rw (on-image _ _ _ (accepted (q .before .before)), ← q .before .node-in .ensures, ← q .query .ensures, ← k .query-number .ensures) (handed-on _ _ _ (λ _. kept q) _ _ (c .before .before .hand-on .ensures))
+    rw (on-image _ _ _ (accepted (q .before .before)), ← q .before .node-in .ensures, ← q .query .ensures, ← k .query-number .ensures)
+    (handed-on _ _ _ (λ _. kept q) _ _ (c .before .before .hand-on .ensures))
 
 returns-2 : tie.Need-returns-2
 unfolding nodeQuery onImage readImage

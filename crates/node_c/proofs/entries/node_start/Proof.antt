@@ -11,11 +11,14 @@ use Rattle.node_c.proofs.entries.node_start.Tie as tie
 
 -- Where an image is written, the state is that of the checkpoint's bytes.
 started : (c : tie.After-start-number) → let s = c .before .before in
-    writesImage (c .start-number .result) ≡ true → ReadState (now (s .before .before .before .before .args .checkpoint)) (s .start .result .node .state)
+    writesImage (c .start-number .result) ≡ true → ReadState (now (s .before .before .before .before .args .checkpoint))
+    (s .start .result .node .state)
 started c w =
     let s = c .before .before in
     let b = s .before .before .before in
-    rw (s .start .ensures) (start-state (now (b .before .args .checkpoint)) _ (λ i. omega (arith, b .shared-slice-known .given i)) (rw (c .start-number .ensures, s .start .ensures) at w))
+    rw (s .start .ensures)
+    (start-state (now (b .before .args .checkpoint)) _ (λ i. omega (arith, b .shared-slice-known .given i))
+    (rw (c .start-number .ensures, s .start .ensures) at w))
 
 start-requires : tie.Need-start-requires
 start-requires c κs = search needs

@@ -12,15 +12,21 @@ u64-at-requires c κs = search needs
 is-zero-from-requires : tie.Need-is-zero-from-requires
 is-zero-from-requires c κs = search needs
 
-is-subject-requires : tie.Need-is-subject-requires
-is-subject-requires c κs = search needs
+is-well-formed-requires : tie.Need-is-well-formed-requires
+is-well-formed-requires c κs = search needs
 
 announcing-requires : tie.Need-announcing-requires
 announcing-requires c κs = search needs
 
 returns : tie.Need-returns
 unfolding readPropose
-returns c = rw (← c .before .before .before .before .u16-at .ensures, ← c .before .before .before .u64-at .ensures, ← c .before .before .is-zero-from .ensures, ← c .before .is-subject .ensures) (c .announcing .ensures)
+returns c =
+    let formed = c .before in
+    let zero = formed .before in
+    let arguments = zero .before in
+    let kind = arguments .before in
+    rw (← kind .u16-at .ensures, ← arguments .u64-at .ensures, ← zero .is-zero-from .ensures, ← formed .is-well-formed .ensures)
+    (c .announcing .ensures)
 
 pub read-propose-spec : {M : Type 1} → statement M
 read-propose-spec =
@@ -29,6 +35,6 @@ read-propose-spec =
     u16-at-requires
     u64-at-requires
     is-zero-from-requires
-    is-subject-requires
+    is-well-formed-requires
     announcing-requires
     returns)

@@ -11,7 +11,7 @@ use Rattle.lists.proofs.Marks.{all-turn}
 use Rattle.lists.proofs.Loops.{all-end}
 use Rattle.binary.specs.Number.{byteAt}
 use Rattle.records.specs.Sheet.{rowsOf}
-use Rattle.records.proofs.Rows.{noRow, sheet-rows, sheet-row}
+use Rattle.records.proofs.SheetRows.{noRow, sheet-rows, sheet-row}
 use Rattle.records.proofs.sheets.are_rows.Statement.{statement}
 use Rattle.records.proofs.sheets.are_rows.Tie as tie
 
@@ -56,8 +56,11 @@ loop-again : tie.Need-loop-again Inv-loop μ-loop
 loop-again c =
     let l = c .before .before .before in
     let b = now (l .before .before .before .before .args .b) in
-    let h : l .loop .i < byteAt 6 b = omega arith in
-    (l .loop .inv .0, l .loop .inv .1 ∙ all-turn _ (rowsOf b) (l .loop .i) noRow (rw sheet-rows h) ∙ rw (sheet-row b (l .loop .i) h, lt-ltb _ _ (c .if1 .left)))
+    let h : l .loop .i < byteAt 6 b = omega arith in (
+      l .loop .inv .0,
+      l .loop .inv .1 ∙ all-turn _ (rowsOf b) (l .loop .i) noRow (rw sheet-rows h) ∙ rw
+          (sheet-row b (l .loop .i) h, lt-ltb _ _ (c .if1 .left)),
+    )
 
 returns-2 : tie.Need-returns-2 Inv-loop μ-loop
 returns-2 c =

@@ -44,7 +44,8 @@ are-rows-requires c κs =
 
 returns-3 : tie.Need-returns-3
 unfolding isSheet
-returns-3 c = rw (le-leb _ _ (c .before .before .before .if2 .left), sym (c .before .before .is-record .ensures) ∙ c .before .if3 .taken) (c .are-rows .ensures)
+returns-3 c = rw (le-leb _ _ (c .before .before .before .if2 .left), sym (c .before .before .is-record .ensures) ∙ c .before .if3 .taken)
+    (c .are-rows .ensures)
 
 returns-4 : tie.Need-returns-4
 unfolding isSheet

@@ -2,7 +2,7 @@ use Prim.Native.Nat.{_<_, _-_}
 use native.Mathlib.Omega.{arith}
 use borrow.Author.Needs.{needs}
 use denote.Ref.{now}
-use Rattle.records.proofs.Rows.{sheet-of, Seen, seen-start, seen-turn, seen-end}
+use Rattle.records.proofs.SheetRows.{sheet-of, Seen, seen-start, seen-turn, seen-end}
 use Rattle.records.proofs.sheets.seen_seats.Statement.{statement}
 use Rattle.records.proofs.sheets.seen_seats.Tie as tie
 
@@ -70,7 +70,8 @@ loop-again c =
     let r = c .before .before .before in
     let l = r .before .before .before .before in
     let s = l .before .before .before .before in
-    seen-turn (now (s .args .b)) (s .args .t2) (l .before .size .result) (l .loop .i) (r .before .size2 .result) (r .u32-at .result) (l .loop .seen) (l .loop .inv)
+    seen-turn (now (s .args .b)) (s .args .t2) (l .before .size .result) (l .loop .i) (r .before .size2 .result) (r .u32-at .result) (l .loop .seen)
+    (l .loop .inv)
     (r .before .before .before .loop-test .taken) (r .before .size2 .ensures) (r .u32-at .ensures)
 
 returns : tie.Need-returns Inv-loop μ-loop

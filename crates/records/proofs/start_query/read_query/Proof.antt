@@ -2,7 +2,7 @@ use mathlib.Core.Path.{_≡_, sym, _∙_}
 use mathlib.Core.Bool.{true}
 use lib.ListN.{length}
 use native.Mathlib.Omega.{arith}
-use borrow.Author.Tests.{le-leb, lt-leb, not-true, not-false}
+use borrow.Author.Tests.{lt-ltb, le-ltb, not-true, not-false}
 use denote.Ref.{now}
 use Rattle.binary.specs.Number.{isRecord}
 use Rattle.records.specs.StartQuery.{readQuery}
@@ -36,11 +36,16 @@ u32-at-requires-2 c κs = omega (arith, long (c .before .before .before))
 
 returns-2 : tie.Need-returns-2
 unfolding readQuery
-returns-2 c = rw (framed (c .before .before .before .before), le-leb _ _ (c .before .before .if2 .taken), c .before .u32-at .ensures, c .u32-at2 .ensures)
+returns-2 c = rw (
+  framed (c .before .before .before .before),
+  lt-ltb _ _ (c .before .before .if2 .taken),
+  c .before .u32-at .ensures,
+  c .u32-at2 .ensures,
+)
 
 returns-3 : tie.Need-returns-3
 unfolding readQuery
-returns-3 c = rw (framed (c .before .before), lt-leb _ _ (c .if2 .left))
+returns-3 c = rw (framed (c .before .before), le-ltb _ _ (c .if2 .left))
 
 pub read-query-spec : {M : Type 1} → statement M
 read-query-spec =

@@ -20,11 +20,19 @@ least-size-requires c κs = search needs
 
 returns : tie.Need-returns
 unfolding frameOf
-returns c = rw (sym (c .before .before .before .before .before .holds-record .ensures) ∙ c .before .before .before .before .if1 .taken, sym (c .before .before .before .size-of .ensures), sym (c .before .before .u16-at .ensures), sym (c .before .least-size .ensures)) (search cases)
+returns c =
+    let b = c .before .before .before .before in
+    let held = sym (b .before .holds-record .ensures) ∙ b .if1 .taken in
+    rw (held, sym (c .before .before .before .size-of .ensures), sym (c .before .before .u16-at .ensures), sym (c .before .least-size .ensures))
+    (search cases)
 
 returns-2 : tie.Need-returns-2
 unfolding frameOf
-returns-2 c = rw (sym (c .before .before .before .before .before .holds-record .ensures) ∙ c .before .before .before .before .if1 .taken, sym (c .before .before .before .size-of .ensures), sym (c .before .before .u16-at .ensures), sym (c .before .least-size .ensures)) (search cases)
+returns-2 c =
+    let b = c .before .before .before .before in
+    let held = sym (b .before .holds-record .ensures) ∙ b .if1 .taken in
+    rw (held, sym (c .before .before .before .size-of .ensures), sym (c .before .before .u16-at .ensures), sym (c .before .least-size .ensures))
+    (search cases)
 
 returns-3 : tie.Need-returns-3
 unfolding frameOf

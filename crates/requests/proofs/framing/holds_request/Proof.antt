@@ -1,5 +1,6 @@
 use mathlib.Core.Path.{sym, _∙_}
-use Rattle.requests.proofs.Frames.{record-heads, record-fits, part-from}
+use Rattle.binary.proofs.Slices.{part-from}
+use Rattle.requests.proofs.Frames.{record-heads, record-fits}
 use Rattle.requests.specs.Framing.{holdsRequest}
 use borrow.Author.Needs.{needs}
 use Rattle.requests.proofs.framing.holds_request.Statement.{statement}
@@ -18,10 +19,14 @@ has-second-requires : tie.Need-has-second-requires
 has-second-requires c κs = search needs
 
 sub-holds-record : tie.Need-sub-holds-record
-sub-holds-record c = rw (c .before .before .before .size-of .ensures) (record-fits _ (sym (c .before .before .before .before .before .holds-record .ensures) ∙ c .before .before .before .before .if1 .taken))
+sub-holds-record c =
+    let b = c .before .before .before in
+    rw (b .size-of .ensures) (record-fits _ (sym (b .before .before .holds-record .ensures) ∙ b .before .if1 .taken))
 
 part-holds-record-start : tie.Need-part-holds-record-start
-part-holds-record-start c = rw (c .before .before .before .size-of .ensures) (record-fits _ (sym (c .before .before .before .before .before .holds-record .ensures) ∙ c .before .before .before .before .if1 .taken))
+part-holds-record-start c =
+    let b = c .before .before .before in
+    rw (b .size-of .ensures) (record-fits _ (sym (b .before .before .holds-record .ensures) ∙ b .before .if1 .taken))
 
 part-holds-record-end : tie.Need-part-holds-record-end
 part-holds-record-end c = search needs
@@ -31,11 +36,18 @@ holds-record-requires-2 c κs = search needs
 
 returns : tie.Need-returns
 unfolding holdsRequest
-returns c = rw (sym (c .before .before .before .before .before .before .before .holds-record .ensures) ∙ c .before .before .before .before .before .before .if1 .taken, sym (c .before .before .before .before .before .size-of .ensures), sym (c .before .before .before .before .u16-at .ensures), sym (c .before .before .before .has-second .ensures) ∙ c .before .before .if2 .taken) (rw part-from at (c .holds-record2 .ensures))
+returns c =
+    let b = c .before .before .before in
+    let held = sym (b .before .before .before .before .holds-record .ensures) ∙ b .before .before .before .if1 .taken in
+    let second = sym (b .has-second .ensures) ∙ c .before .before .if2 .taken in
+    rw (held, sym (b .before .before .size-of .ensures), sym (b .before .u16-at .ensures), second) (rw part-from at (c .holds-record2 .ensures))
 
 returns-2 : tie.Need-returns-2
 unfolding holdsRequest
-returns-2 c = rw (sym (c .before .before .before .before .before .holds-record .ensures) ∙ c .before .before .before .before .if1 .taken, sym (c .before .before .u16-at .ensures), sym (c .before .has-second .ensures) ∙ c .if2 .left) (search needs)
+returns-2 c =
+    let b = c .before .before in
+    let held = sym (b .before .before .before .holds-record .ensures) ∙ b .before .before .if1 .taken in
+    rw (held, sym (b .u16-at .ensures), sym (c .before .has-second .ensures) ∙ c .if2 .left) (search needs)
 
 returns-3 : tie.Need-returns-3
 unfolding holdsRequest

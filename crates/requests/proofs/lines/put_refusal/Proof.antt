@@ -1,9 +1,9 @@
-use Rattle.requests.proofs.Writing.{length-decimal, put-first, put-next, put-last}
-use Rattle.requests.specs.Lines.{decimal}
+use Rattle.requests.proofs.Writing.{put-first, put-next, put-last}
+use Rattle.decimal.specs.Decimal.{decimal}
+use Rattle.decimal.proofs.Stored.{length-decimal}
 use Rattle.binary.proofs.Splices.{lefts-rights}
 use mathlib.Core.List.{[], _∷_}
 use denote.Ref.{now}
-use Rattle.requests.proofs.Writing.{length-decimal}
 use native.Mathlib.Omega.{arith}
 use borrow.Author.Needs.{needs}
 use Rattle.requests.proofs.lines.put_refusal.Statement.{statement}
@@ -22,13 +22,18 @@ slice-aggregate-put-bytes-2 : tie.Need-slice-aggregate-put-bytes-2
 slice-aggregate-put-bytes-2 c = search needs
 
 put-bytes-requires-2 : tie.Need-put-bytes-requires-2
-put-bytes-requires-2 c κs = omega (arith, length-decimal (c .before .before .before .before .before .before .before .before .before .before .before .before .args .number))
+put-bytes-requires-2 c κs =
+    let x = c .before .before .before .before in
+    let w = x .before .before .before .before in
+    let a = w .before .before .before .before .args in
+    omega (arith, length-decimal (a .number))
 
 same-length : tie.Need-same-length
 same-length c = search needs
 
 returns : tie.Need-returns
-returns c = let n = c .before .before in
+returns c =
+    let n = c .before .before in
     let x = n .before .before .before .before .before in
     let w = x .before .before .before .before in
     let a = w .before .before .before .before .args in

@@ -3,7 +3,8 @@ use native.Mathlib.Nat.{sub-zero}
 use native.Mathlib.Omega.{arith}
 use borrow.Author.Tests.{eq-eqb, ne-eqb}
 use mathlib.Core.Path.{refl, sym, _∙_}
-use Rattle.requests.proofs.Frames.{frame-fits, second-fits, part-from}
+use Rattle.binary.proofs.Slices.{part-from}
+use Rattle.requests.proofs.Frames.{frame-fits, second-fits}
 use Rattle.requests.specs.Requests.{stepDeliver}
 use borrow.Author.Needs.{needs}
 use Rattle.requests.proofs.steps.step_deliver.Statement.{statement}
@@ -39,7 +40,9 @@ cut-requires-2 c κs = search needs
 
 returns-2 : tie.Need-returns-2
 unfolding stepDeliver
-returns-2 c = rw (c .cut2 .ensures, sym (rw part-from at (c .before .before .before .before .before .frame .ensures)) ∙ c .before .before .before .second .given .1, ne-eqb _ _ (c .before .if1 .taken)) refl
+returns-2 c =
+    let b = c .before .before .before in
+    rw (c .cut2 .ensures, sym (rw part-from at (b .before .before .frame .ensures)) ∙ b .second .given .1, ne-eqb _ _ (c .before .if1 .taken)) refl
 
 sub-deliver : tie.Need-sub-deliver
 sub-deliver c = search needs
@@ -57,7 +60,9 @@ part-deliver-start-2 : tie.Need-part-deliver-start-2
 part-deliver-start-2 c = search needs
 
 part-deliver-end-2 : tie.Need-part-deliver-end-2
-part-deliver-end-2 c = frame-fits _ _ _ (sym (c .before .before .before .before .before .frame .ensures) ∙ c .before .before .before .second .given .1)
+part-deliver-end-2 c =
+    let b = c .before .before .before in
+    frame-fits _ _ _ (sym (b .before .before .frame .ensures) ∙ b .second .given .1)
 
 deliver-requires : tie.Need-deliver-requires
 deliver-requires c κs = search needs
@@ -66,15 +71,20 @@ deliver-answer-requires : tie.Need-deliver-answer-requires
 deliver-answer-requires c κs = search needs
 
 add-t12 : tie.Need-add-t12
-add-t12 c = let s = c .before .before .before .before .before .before .before .before .before .before .before .before in
-    let h = second-fits (now (s .args .b)) (s .args .first) _ _ (s .pre) (sym (rw part-from at (c .before .before .before .before .before .before .before .before .before .frame .ensures)) ∙ c .before .before .before .before .before .before .before .second .given .1) in
+add-t12 c =
+    let s = c .before .before .before .before .before .before .before .before .before .before .before .before in
+    let b = c .before .before .before .before .before .before .before in
+    let second = sym (rw part-from at (b .before .before .frame .ensures)) ∙ b .second .given .1 in
+    let h = second-fits (now (s .args .b)) (s .args .first) _ _ (s .pre) second in
     omega arith
 
 returns-3 : tie.Need-returns-3
 unfolding stepDeliver
 returns-3 c =
     let e = rw (sub-zero, sub-zero, part-from) at (c .before .before .deliver .ensures) in
-    rw (sym (rw part-from at (c .before .before .before .before .before .before .before .before .before .frame .ensures)) ∙ c .before .before .before .before .before .before .before .second .given .1, eq-eqb _ _ (c .before .before .before .before .before .if1 .left), ← e, ← c .deliver-answer .ensures) refl
+    let b = c .before .before .before .before .before .before .before in
+    let second = sym (rw part-from at (b .before .before .frame .ensures)) ∙ b .second .given .1 in
+    rw (second, eq-eqb _ _ (c .before .before .before .before .before .if1 .left), ← e, ← c .deliver-answer .ensures) refl
 
 pub step-deliver-spec : {M : Type 1} → statement M
 step-deliver-spec =

@@ -3,7 +3,8 @@ use native.Mathlib.Nat.{sub-zero}
 use native.Mathlib.Omega.{arith}
 use borrow.Author.Tests.{eq-eqb, ne-eqb}
 use mathlib.Core.Path.{refl, sym, _∙_}
-use Rattle.requests.proofs.Frames.{frame-fits, second-fits, part-from}
+use Rattle.binary.proofs.Slices.{part-from}
+use Rattle.requests.proofs.Frames.{frame-fits, second-fits}
 use Rattle.requests.specs.Requests.{stepStart}
 use borrow.Author.Needs.{needs}
 use Rattle.requests.proofs.steps.step_start.Statement.{statement}
@@ -39,7 +40,9 @@ cut-requires-2 c κs = search needs
 
 returns-2 : tie.Need-returns-2
 unfolding stepStart
-returns-2 c = rw (c .cut2 .ensures, sym (rw part-from at (c .before .before .before .before .before .frame .ensures)) ∙ c .before .before .before .second .given .1, ne-eqb _ _ (c .before .if1 .taken)) refl
+returns-2 c =
+    let b = c .before .before .before in
+    rw (c .cut2 .ensures, sym (rw part-from at (b .before .before .frame .ensures)) ∙ b .second .given .1, ne-eqb _ _ (c .before .if1 .taken)) refl
 
 sub-start : tie.Need-sub-start
 sub-start c = search needs
@@ -63,8 +66,11 @@ start-requires : tie.Need-start-requires
 start-requires c κs = search needs
 
 add-after-start : tie.Need-add-after-start
-add-after-start c = let s = c .before .before .before .before .before .before .before .before .before .before in
-    let h = second-fits (now (s .args .b)) (s .args .first) _ _ (s .pre) (sym (rw part-from at (c .before .before .before .before .before .before .before .frame .ensures)) ∙ c .before .before .before .before .before .second .given .1) in
+add-after-start c =
+    let s = c .before .before .before .before .before .before .before .before .before .before in
+    let b = c .before .before .before .before .before in
+    let second = sym (rw part-from at (b .before .before .frame .ensures)) ∙ b .second .given .1 in
+    let h = second-fits (now (s .args .b)) (s .args .first) _ _ (s .pre) second in
     omega arith
 
 after-start-requires : tie.Need-after-start-requires
@@ -74,7 +80,9 @@ returns-3 : tie.Need-returns-3
 unfolding stepStart
 returns-3 c =
     let e = rw (sub-zero, sub-zero, part-from) at (c .before .start .ensures) in
-    rw (sym (rw part-from at (c .before .before .before .before .before .before .before .before .frame .ensures)) ∙ c .before .before .before .before .before .before .second .given .1, eq-eqb _ _ (c .before .before .before .before .if1 .left), ← e) (c .after-start .ensures)
+    let b = c .before .before .before .before .before .before in
+    let second = sym (rw part-from at (b .before .before .frame .ensures)) ∙ b .second .given .1 in
+    rw (second, eq-eqb _ _ (c .before .before .before .before .if1 .left), ← e) (c .after-start .ensures)
 
 pub step-start-spec : {M : Type 1} → statement M
 step-start-spec =

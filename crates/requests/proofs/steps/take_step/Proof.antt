@@ -27,7 +27,10 @@ step-start-requires c κs = frame-fits _ _ _ (sym (c .before .before .before .be
 
 returns-2 : tie.Need-returns-2
 unfolding stepOf
-returns-2 c = rw (sym (c .before .before .before .before .before .frame .ensures) ∙ c .before .before .before .front .given .1, eq-eqb _ _ (c .before .if1 .taken), c .step-start .ensures) refl
+returns-2 c =
+    let b = c .before .before .before in
+    let front = sym (b .before .before .frame .ensures) ∙ b .front .given .1 in
+    rw (front, eq-eqb _ _ (c .before .if1 .taken), c .step-start .ensures) refl
 
 is-none-requires : tie.Need-is-none-requires
 is-none-requires c κs = search needs
@@ -37,31 +40,55 @@ cut-requires-2 c κs = search needs
 
 returns-3 : tie.Need-returns-3
 unfolding stepOf
-returns-3 c = rw (sym (c .before .before .before .before .before .before .before .frame .ensures) ∙ c .before .before .before .before .before .front .given .1, ne-eqb _ _ (c .before .before .before .if1 .left), sym (c .before .before .is-none .ensures) ∙ c .before .if2 .taken, c .cut2 .ensures) refl
+returns-3 c =
+    let b = c .before .before .before .before .before in
+    let front = sym (b .before .before .frame .ensures) ∙ b .front .given .1 in
+    let none = sym (c .before .before .is-none .ensures) ∙ c .before .if2 .taken in
+    rw (front, ne-eqb _ _ (c .before .before .before .if1 .left), none, c .cut2 .ensures) refl
 
 step-query-requires : tie.Need-step-query-requires
-step-query-requires c κs = frame-fits _ _ _ (sym (c .before .before .before .before .before .before .before .frame .ensures) ∙ c .before .before .before .before .before .front .given .1)
+step-query-requires c κs =
+    let b = c .before .before .before .before .before in
+    frame-fits _ _ _ (sym (b .before .before .frame .ensures) ∙ b .front .given .1)
 
 returns-4 : tie.Need-returns-4
 unfolding stepOf
-returns-4 c = rw (sym (c .before .before .before .before .before .before .before .before .frame .ensures) ∙ c .before .before .before .before .before .before .front .given .1, ne-eqb _ _ (c .before .before .before .before .if1 .left), sym (c .before .before .before .is-none .ensures) ∙ c .before .before .if2 .left, eq-eqb _ _ (c .before .if3 .taken), c .step-query .ensures) refl
+returns-4 c =
+    let b = c .before .before .before .before .before .before in
+    let front = sym (b .before .before .frame .ensures) ∙ b .front .given .1 in
+    let some = sym (c .before .before .before .is-none .ensures) ∙ c .before .before .if2 .left in
+    rw (front, ne-eqb _ _ (c .before .before .before .before .if1 .left), some, eq-eqb _ _ (c .before .if3 .taken), c .step-query .ensures) refl
 
 is-announcement-requires : tie.Need-is-announcement-requires
 is-announcement-requires c κs = search needs
 
 step-deliver-requires : tie.Need-step-deliver-requires
-step-deliver-requires c κs = frame-fits _ _ _ (sym (c .before .before .before .before .before .before .before .before .before .frame .ensures) ∙ c .before .before .before .before .before .before .before .front .given .1)
+step-deliver-requires c κs =
+    let b = c .before .before .before .before .before .before .before in
+    frame-fits _ _ _ (sym (b .before .before .frame .ensures) ∙ b .front .given .1)
 
 returns-5 : tie.Need-returns-5
 unfolding stepOf
-returns-5 c = rw (sym (c .before .before .before .before .before .before .before .before .before .before .frame .ensures) ∙ c .before .before .before .before .before .before .before .before .front .given .1, ne-eqb _ _ (c .before .before .before .before .before .before .if1 .left), sym (c .before .before .before .before .before .is-none .ensures) ∙ c .before .before .before .before .if2 .left, ne-eqb _ _ (c .before .before .before .if3 .left), sym (c .before .before .is-announcement .ensures) ∙ c .before .if4 .taken, c .step-deliver .ensures) refl
+returns-5 c =
+    let a = c .before .before .before in
+    let b = a .before .before .before .before .before in
+    let front = sym (b .before .before .frame .ensures) ∙ b .front .given .1 in
+    let some = sym (a .before .before .is-none .ensures) ∙ a .before .if2 .left in
+    let kind = sym (c .before .before .is-announcement .ensures) ∙ c .before .if4 .taken in
+    rw (front, ne-eqb _ _ (a .before .before .before .if1 .left), some, ne-eqb _ _ (a .if3 .left), kind, c .step-deliver .ensures) refl
 
 cut-requires-3 : tie.Need-cut-requires-3
 cut-requires-3 c κs = search needs
 
 returns-6 : tie.Need-returns-6
 unfolding stepOf
-returns-6 c = rw (sym (c .before .before .before .before .before .before .before .before .before .before .frame .ensures) ∙ c .before .before .before .before .before .before .before .before .front .given .1, ne-eqb _ _ (c .before .before .before .before .before .before .if1 .left), sym (c .before .before .before .before .before .is-none .ensures) ∙ c .before .before .before .before .if2 .left, ne-eqb _ _ (c .before .before .before .if3 .left), sym (c .before .before .is-announcement .ensures) ∙ c .before .if4 .left, c .cut3 .ensures) refl
+returns-6 c =
+    let a = c .before .before .before in
+    let b = a .before .before .before .before .before in
+    let front = sym (b .before .before .frame .ensures) ∙ b .front .given .1 in
+    let some = sym (a .before .before .is-none .ensures) ∙ a .before .if2 .left in
+    let kind = sym (c .before .before .is-announcement .ensures) ∙ c .before .if4 .left in
+    rw (front, ne-eqb _ _ (a .before .before .before .if1 .left), some, ne-eqb _ _ (a .if3 .left), kind, c .cut3 .ensures) refl
 
 pub take-step-spec : {M : Type 1} → statement M
 take-step-spec =

@@ -9,7 +9,8 @@ use Rattle.requests.proofs.windows.shift.Statement.{statement}
 use Rattle.requests.proofs.windows.shift.Tie as tie
 
 abbrev Inv-loop : tie.InvT-loop
-Inv-loop buffer₀ from to count i₀ buffer i = (from + count ≤ length buffer₀) × ((count ≡ to - from) × Copied buffer₀ 0 (take count (drop from buffer₀)) i buffer)
+Inv-loop buffer₀ from to count i₀ buffer i =
+    (from + count ≤ length buffer₀) × ((count ≡ to - from) × Copied buffer₀ 0 (take count (drop from buffer₀)) i buffer)
 
 abbrev μ-loop : tie.MeasureT-loop
 μ-loop buffer₀ from to count i₀ buffer i = count - i

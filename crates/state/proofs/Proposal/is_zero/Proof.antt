@@ -5,8 +5,14 @@ use Rattle.state.proofs.Proposal.is_zero.Tie as tie
 is-used-requires : tie.Need-is-used-requires
 is-used-requires c κs = search needs
 
+is-same-requires : tie.Need-is-same-requires
+is-same-requires c κs = search needs
+
+is-same-requires-2 : tie.Need-is-same-requires-2
+is-same-requires-2 c κs = search needs
+
 returns : tie.Need-returns
-returns c = rw (c .before .before .before .is-used .ensures)
+returns c = rw (c .is-same2 .ensures, c .before .is-same .ensures, c .before .before .is-used .ensures)
 
 pub is-zero-spec : {M : Type 1} → statement M
-is-zero-spec = tie.close (tie.spec is-used-requires returns)
+is-zero-spec = tie.close (tie.spec is-used-requires is-same-requires is-same-requires-2 returns)

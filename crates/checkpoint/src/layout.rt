@@ -1,0 +1,30 @@
+// The kind and sizes of a checkpoint, and where its parts start.
+use state::limits::PROPOSAL_ROWS;
+use state::limits::SEATS;
+
+pub const CHECKPOINT: u16 = 16;
+
+pub const CHECKPOINT_LENGTH: u16 = 1106;
+
+pub const CHECKPOINT_SIZE: usize = 1108;
+
+// The rows of the tables.
+pub const SEAT_SIZE: usize = 5;
+
+pub const PROPOSAL_SIZE: usize = 18;
+
+pub const LOGIN_SIZE: usize = 10;
+
+// The numbers before the tables.
+pub const HEAD_AT: usize = 4;
+
+pub const SEATS_AT: usize = 18;
+
+// The count of each of the other two tables, and the table.
+pub const PROPOSAL_COUNT_AT: usize = SEATS_AT + SEATS * SEAT_SIZE;
+
+pub const PROPOSALS_AT: usize = PROPOSAL_COUNT_AT + 1;
+
+pub const LOGIN_COUNT_AT: usize = PROPOSALS_AT + PROPOSAL_ROWS * PROPOSAL_SIZE;
+
+pub const LOGINS_AT: usize = LOGIN_COUNT_AT + 1;

@@ -1,0 +1,3 @@
+-- Numbers in decimal.
+pub mod Decimal
+pub mod Claims

@@ -1,0 +1,40 @@
+-- What unfolds where a call is computed on numerals: `unfolding calls-by-value` opens every definition that the four calls use.
+use Rattle.lists.specs.Fold.{any, all, count, countFrom, first}
+use Rattle.lists.specs.Table.{risingFrom, keep, fill, replaceFirst}
+use Rattle.refusals.specs.Refusals.{lowest}
+use Rattle.binary.specs.Number.{toBytes, fromBytes, isZeroFrom}
+use Rattle.binary.specs.Codec.{encodeRows, decodeRows}
+use Rattle.state.specs.Minima.{isInRange}
+use Rattle.state.specs.Seats.{presentSeats, quorum, quorumOf}
+use Rattle.state.specs.Trustees.{onesBelow, isMajority}
+use Rattle.state.specs.Subjects.{isCertify, isMinima, isRemove, isSubject}
+use Rattle.state.specs.WellFormed.{areWellFormedProposals, areWellFormedLogins, isWellFormed, blankState}
+use Rattle.tables.specs.Proposals.{addProposal, hasProposal, dropProposal, matureProposal}
+use Rattle.tables.specs.Logins.{findLogin, isListed, insertLogin, grantLogin, endLogin}
+use Rattle.records.specs.Announcement.{announcing, readPropose, readCancel, readPresents, readCertify, readMinima, readRemove, readRejoin}
+use Rattle.records.specs.Announcement.{readGrant, readEnd, readKind, readAnnouncement, announcementBytes}
+use Rattle.records.specs.Sheet.{rowsOf, isSheet, counts, countedSeats, sheetOf}
+use Rattle.records.specs.StartQuery.{readStart, readQuery}
+use Rattle.checkpoint.specs.Checkpoint.{checkpointBytes, decodeCheckpoint, isCheckpoint, readCheckpoint}
+use Rattle.rules.specs.Rules.{timeRefusal, noticeRefusal, quorumRefusal, presentWithout, checkRefusal, actionRefusal}
+use Rattle.actions.specs.Perform.{withStanding, withLife, effect, useProposal, act, perform}
+use Rattle.verdicts.specs.Own.{isSameBytes}
+use Rattle.verdicts.specs.Verdicts.{deliverRefusal, showsQuorum, voteRefusal, loginRefusal, queryRefusal, startRefusal}
+use Rattle.node.specs.Deliver.{deliverRead, deliverOf}
+use Rattle.node.specs.Query.{queryReply, queryOf}
+use Rattle.node.specs.Start.{blankNode, startRead, startOf}
+use Rattle.node.specs.Checkpoint.{checkpointOf}
+
+unfoldable pub calls-by-value : Unit {0}
+unfolding any all count countFrom first risingFrom keep fill replaceFirst lowest toBytes fromBytes isZeroFrom encodeRows decodeRows
+    isInRange presentSeats quorum quorumOf onesBelow isMajority isCertify isMinima isRemove isSubject
+    areWellFormedProposals areWellFormedLogins isWellFormed blankState
+    addProposal hasProposal dropProposal matureProposal findLogin isListed insertLogin grantLogin endLogin
+    announcing readPropose readCancel readPresents readCertify readMinima readRemove readRejoin readGrant readEnd readKind readAnnouncement
+    announcementBytes rowsOf isSheet counts countedSeats sheetOf readStart readQuery
+    checkpointBytes decodeCheckpoint isCheckpoint readCheckpoint
+    timeRefusal noticeRefusal quorumRefusal presentWithout checkRefusal actionRefusal
+    withStanding withLife effect useProposal act perform isSameBytes
+    deliverRefusal showsQuorum voteRefusal loginRefusal queryRefusal startRefusal
+    deliverRead deliverOf queryReply queryOf blankNode startRead startOf checkpointOf
+calls-by-value = tt

@@ -1,0 +1,4 @@
+-- The computed checks.
+pub mod Compute
+pub mod Examples
+pub mod TableOfNo

@@ -1,0 +1,4 @@
+-- The fourteen marked examples, and the examples of the table of no.
+pub mod Records
+pub mod Examples
+pub mod TableOfNo

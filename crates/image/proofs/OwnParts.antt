@@ -1,0 +1,77 @@
+-- An image read: the fields of its own part at their offsets, and what the tests come to; written: the number of rows of a table.
+use Prim.Native.Nat.{ℕ, zero, suc, _≤_}
+use native.Mathlib.Omega.{arith}
+use mathlib.Core.Path.{_≡_, refl, sym, ap, _∙_}
+use mathlib.Core.Bool.{Bool, true, not, _&&_}
+use mathlib.Core.List.{List, [], _∷_, map}
+use lib.Dec.{eqb, leb, ltb}
+use lib.ListN.{length, take, drop, length-drop, length-map}
+use lib.Seq.{getD-drop, drop-drop}
+use borrow.Author.Tests.{eq-eqb}
+use Rattle.binary.specs.Number.{field, byteAt}
+use Rattle.binary.specs.Codec.{byte, encodeRows, decodeRows}
+use Rattle.state.specs.Limits.{seatCount}
+use Rattle.state.specs.Seats.{seatAt}
+use Rattle.records.specs.Layout.{announcementSize}
+use Rattle.checkpoint.specs.Layout.{checkpointSize}
+use Rattle.checkpoint.specs.Checkpoint.{decodeCheckpoint, isCheckpoint}
+use Rattle.verdicts.specs.declared.Own.{Own}
+use Rattle.verdicts.specs.Own.{mostMisses}
+use Rattle.node.specs.WellFormed.{ownFields, ownOf, isWellFormedVote, isWellFormedOwn}
+use Rattle.image.specs.Layout.{imageSize, ownAt, lifeAt, flagAt, voteAt, missesAt}
+use Rattle.image.specs.Image.{decodeImage, isImage}
+
+-- the own part in an image's bytes
+abbrev pub ownIn : List ℕ → Own
+ownIn b = ownOf (ownFields .decode (drop ownAt b))
+
+-- The fields at their offsets.
+abbrev pub ownFrom : List ℕ → Own
+ownFrom b = record {
+  seat = byteAt ownAt b;
+  life = field 4 lifeAt b;
+  voted = eqb (byteAt flagAt b) 1;
+  vote = decodeRows byte announcementSize (drop voteAt b);
+  misses = byteAt missesAt b;
+}
+
+pub own-at : (b : List ℕ) → ownIn b ≡ ownFrom b
+own-at b = simp (getD-drop, drop-drop)
+
+flag-at : (b : List ℕ) → ownFields .decode (drop ownAt b) .flag ≡ byteAt flagAt b
+flag-at b = simp (getD-drop, drop-drop)
+
+-- Rows of one byte are the bytes.
+bytes-are : (n : ℕ) (b : List ℕ) → n ≤ length b → decodeRows byte n b ≡ take n b
+unfolding decodeRows
+bytes-are zero b h = refl
+bytes-are (suc n) [] h = absurd (omega arith)
+bytes-are (suc n) (x ∷ xs) h = ap (λ (l : List ℕ). x ∷ l) (bytes-are n xs (omega arith))
+
+-- and a table of them is written as it stands
+pub bytes-written : (b : List ℕ) → encodeRows byte b ≡ b
+unfolding encodeRows
+bytes-written [] = refl
+bytes-written (x ∷ xs) = ap (λ (l : List ℕ). x ∷ l) (bytes-written xs)
+
+-- What the tests of an own part come to, where its seat's standing and its vote are tested.
+pub own-tested : (b : List ℕ) (standing : ℕ) (voted : Bool) → length b ≡ imageSize
+    → standing ≡ seatAt (byteAt ownAt b) (decodeCheckpoint (take checkpointSize b) .state .seats) .standing
+    → voted ≡ isWellFormedVote (decodeCheckpoint (take checkpointSize b) .state .cycle) (eqb (byteAt flagAt b) 1)
+    (take announcementSize (drop voteAt b))
+    → isWellFormedOwn (decodeImage b .state) (decodeImage b .own)
+    ≡ (ltb (byteAt ownAt b) seatCount && (not (eqb standing 0) && (leb 1 (field 4 lifeAt b) && (voted && leb (byteAt missesAt b) mostMisses))))
+unfolding decodeImage isWellFormedOwn
+own-tested b standing voted l e f =
+    let v = bytes-are announcementSize (drop voteAt b) (rw length-drop (omega arith)) in
+    ap (isWellFormedOwn (decodeCheckpoint (take checkpointSize b) .state)) (own-at b) ∙ rw (v, ← e, ← f)
+
+-- What the tests of an image come to, where its state is accepted and its own part is tested.
+pub image-tested : (b : List ℕ) (own : Bool) → length b ≡ imageSize → isCheckpoint (take checkpointSize b) ≡ true
+    → own ≡ isWellFormedOwn (decodeImage b .state) (decodeImage b .own) → isImage b ≡ (leb (byteAt flagAt b) 1 && own)
+unfolding isImage
+image-tested b own l e f = rw (eq-eqb _ _ l, e, flag-at b, ← f)
+
+-- A table in a struct: what is told of its length is told of its rows as they stand in memory.
+pub mapped-length : (A B : Type 0) (f : A → B) (l : List A) (n : ℕ) → length (map f l) ≡ n → length l ≡ n
+mapped-length A B f l n e = sym (length-map l f) ∙ e

@@ -1,0 +1,23 @@
+-- "Image for C, 1,139 bytes: checkpoint; seat 1, life 4 .., voted flag 1 .., voted announcement 24 .., misses 1.": where each field of the own part
+-- lies.
+use Prim.Native.Nat.{ℕ, _+_}
+use Rattle.records.specs.Layout.{announcementSize}
+use Rattle.checkpoint.specs.Layout.{checkpointSize}
+
+abbrev pub imageSize : ℕ
+imageSize = 1139
+
+abbrev pub ownAt : ℕ
+ownAt = checkpointSize
+
+abbrev pub lifeAt : ℕ
+lifeAt = ownAt + 1
+
+abbrev pub flagAt : ℕ
+flagAt = lifeAt + 4
+
+abbrev pub voteAt : ℕ
+voteAt = flagAt + 1
+
+abbrev pub missesAt : ℕ
+missesAt = voteAt + announcementSize

@@ -1,3 +1,0 @@
--- The computed check.
-pub mod Compute
-pub mod Examples

@@ -1,3 +1,0 @@
--- The fourteen marked examples.
-pub mod Records
-pub mod Examples

@@ -1,0 +1,3 @@
+-- Laws of refusal numbers.
+pub mod Chains
+pub mod UpTo

@@ -1,0 +1,2 @@
+-- Refusal numbers (01: numbers of the table of no).
+pub mod Refusals

@@ -1,0 +1,52 @@
+use Rattle.rules.specs.Rules.{checkRefusal}
+use Rattle.rules.proofs.CaseKinds.{other-case}
+use borrow.Author.Needs.{needs}
+use Rattle.rules.proofs.checks.rejoin_check.Statement.{statement}
+use Rattle.rules.proofs.checks.rejoin_check.Tie as tie
+
+enum-known-action : tie.Need-enum-known-action
+enum-known-action c = search needs
+
+returns : tie.Need-returns
+returns c d = absurd (other-case (c .before .args .action) 6 (c .before .pre) (tt {0}) (c .match .keys2))
+
+seat-at-requires : tie.Need-seat-at-requires
+seat-at-requires c κs = search needs
+
+is-active-requires : tie.Need-is-active-requires
+is-active-requires c κs = search needs
+
+refuse-if-requires : tie.Need-refuse-if-requires
+refuse-if-requires c κs = search needs
+
+refuse-if-requires-2 : tie.Need-refuse-if-requires-2
+refuse-if-requires-2 c κs = search needs
+
+or-else-requires : tie.Need-or-else-requires
+or-else-requires c κs = search needs
+
+returns-2 : tie.Need-returns-2
+unfolding checkRefusal
+returns-2 c d =
+    let unfit = c .before .before .before in
+    let seat = unfit .before .before in
+    rw (
+      seat .before .before .before .action .given .1,
+      ← seat .seat-at .ensures,
+      ← unfit .before .is-active .ensures,
+      ← unfit .refuse-if .ensures,
+      ← c .before .refuse-if2 .ensures,
+    ) (c .or-else .ensures)
+
+pub rejoin-check-spec : {M : Type 1} → statement M
+rejoin-check-spec =
+    tie.close
+    (tie.spec
+    enum-known-action
+    returns
+    seat-at-requires
+    is-active-requires
+    refuse-if-requires
+    refuse-if-requires-2
+    or-else-requires
+    returns-2)

@@ -1,0 +1,2 @@
+-- "The table of no", rules 4 to 14.
+pub mod Rules

@@ -1,0 +1,12 @@
+use borrow.Author.Needs.{needs}
+use Rattle.tables.proofs.proposals.is_mature.Statement.{statement}
+use Rattle.tables.proofs.proposals.is_mature.Tie as tie
+
+since-requires : tie.Need-since-requires
+since-requires c κs = search needs
+
+returns : tie.Need-returns
+returns c = rw (c .since .ensures)
+
+pub is-mature-spec : {M : Type 1} → statement M
+is-mature-spec = tie.close (tie.spec since-requires returns)

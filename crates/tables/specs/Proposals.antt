@@ -1,0 +1,47 @@
+-- "at most 16 proposals"
+use Prim.Native.Nat.{ℕ, _-_}
+use mathlib.Core.List.{List}
+use mathlib.Core.Bool.{Bool, not, _&&_}
+use lib.Dec.{eqb, leb}
+use lib.ListN.{getD}
+use Rattle.lists.specs.Fold.{any, first}
+use Rattle.lists.specs.Table.{keep, fill, replaceFirst}
+use Rattle.state.specs.declared.Day.{Day}
+use Rattle.state.specs.declared.Cycle.{Cycle}
+use Rattle.state.specs.declared.Subject.{Subject}
+use Rattle.state.specs.declared.Proposal.{Proposal}
+use Rattle.state.specs.Limits.{proposalRows}
+use Rattle.state.specs.Time.{daysSince, isSameCycle}
+use Rattle.state.specs.Rows.{noProposal, isProposal}
+
+-- the last row is used
+abbrev pub proposalsFull : List Proposal → Bool
+proposalsFull rows = isProposal (getD rows (proposalRows - 1) noProposal)
+
+-- "adds a proposal": in the first unused row, after all others
+unfoldable pub addProposal : Proposal → List Proposal → List Proposal
+addProposal x rows = replaceFirst (λ r. not (isProposal r)) x rows
+
+abbrev pub isOfCycle : Cycle → Proposal → Bool
+isOfCycle c r = isProposal r && isSameCycle (r .cycle) c
+
+unfoldable pub hasProposal : Cycle → List Proposal → Bool
+hasProposal c rows = any (isOfCycle c) rows
+
+-- "drops that cycle's proposal"; "Freed rows are used again."
+unfoldable pub dropProposal : Cycle → List Proposal → List Proposal
+dropProposal c rows = fill proposalRows noProposal (keep (λ r. not (isOfCycle c r)) rows)
+
+-- "ripe means announced day minus proposal day is at least 7"
+abbrev pub noticeDays : ℕ
+noticeDays = 7
+
+-- a proposal of this subject that is mature (01: ripe) on the announced day
+abbrev pub isMature : Subject → Day → Proposal → Bool
+isMature x announced r =
+    eqb (r .subject .kind) (x .kind)
+    && (eqb (r .subject .arguments) (x .arguments) && leb noticeDays (daysSince announced (r .day)))
+
+-- "the ripe proposal of lowest cycle with the same kind and arguments", or an unused row: the first, for the rows rise by cycle
+unfoldable pub matureProposal : Subject → Day → List Proposal → Proposal
+matureProposal x announced rows = first (isMature x announced) noProposal rows

@@ -1,0 +1,135 @@
+// The table of logins.
+ghost use mathlib.Core.Path.{_≡_};
+ghost use Rattle.lists.specs.Fold.{count};
+ghost use Rattle.lists.specs.Code.{indexOf, insertAt};
+ghost use Rattle.state.specs.Rows.{isLogin};
+ghost use Rattle.tables.specs.Logins.{loginsFull, findLogin, isListed, lacksRow, grantLogin, endLogin};
+ghost use Rattle.tables.specs.Code.{isPlace};
+use state::Login;
+use state::NO_LOGIN;
+use state::limits::LOGIN_ROWS;
+
+// Whether a new row of this login takes this row's place or comes before it.
+fn is_place(row: Login, login: u32) -> bool
+    ensures { λ r. ⌜ r ≡ isPlace login row ⌝ }
+{
+    (row.login == login) | (!row.is_used() | (login < row.login))
+}
+
+// Whether the last row is used.
+pub fn logins_full(rows: [Login; LOGIN_ROWS]) -> bool
+    ensures { λ r. ⌜ r ≡ loginsFull rows ⌝ }
+{
+    let row = rows[LOGIN_ROWS - 1];
+    row.is_used()
+}
+
+// The number of used rows.
+pub fn count_logins(rows: [Login; LOGIN_ROWS]) -> u8
+    ensures { λ r. ⌜ r ≡ count isLogin rows ⌝ }
+{
+    let mut n: u8 = 0;
+    let mut i: usize = 0;
+    while i < LOGIN_ROWS {
+        let row = rows[i];
+        if row.is_used() {
+            n = n + 1;
+        }
+        i = i + 1;
+    }
+    n
+}
+
+// The row of the login, or an unused row.
+pub fn find_login(rows: [Login; LOGIN_ROWS], login: u32) -> Login
+    ensures { λ r. ⌜ r ≡ findLogin login rows ⌝ }
+{
+    let mut i: usize = 0;
+    while i < LOGIN_ROWS {
+        let row = rows[i];
+        if row.login == login {
+            return row;
+        }
+        i = i + 1;
+    }
+    NO_LOGIN
+}
+
+pub fn is_listed(rows: [Login; LOGIN_ROWS], login: u32) -> bool
+    ensures { λ r. ⌜ r ≡ isListed login rows ⌝ }
+{
+    find_login(rows, login).is_used()
+}
+
+// Whether a row of this login needs an unused one, and there is none.
+pub fn lacks_row(rows: [Login; LOGIN_ROWS], login: u32) -> bool
+    ensures { λ r. ⌜ r ≡ lacksRow login rows ⌝ }
+{
+    logins_full(rows) & !is_listed(rows, login)
+}
+
+// The index of the row whose place a new row of this login takes, or before which it comes, and the number of rows where there is none.
+fn place_of(rows: [Login; LOGIN_ROWS], login: u32) -> usize
+    ensures { λ r. ⌜ r ≡ indexOf (isPlace login) rows ⌝ }
+{
+    let mut i: usize = 0;
+    while i < LOGIN_ROWS {
+        let row = rows[i];
+        if is_place(row, login) {
+            return i;
+        }
+        i = i + 1;
+    }
+    i
+}
+
+// The table with x before row i; the last row is lost.
+fn insert_at(rows: [Login; LOGIN_ROWS], at: usize, x: Login) -> [Login; LOGIN_ROWS]
+    ensures { λ r. ⌜ r ≡ insertAt at x rows ⌝ }
+{
+    let mut out = rows;
+    let mut next = x;
+    let mut i = at;
+    while i < LOGIN_ROWS {
+        let row = out[i];
+        out[i] = next;
+        next = row;
+        i = i + 1;
+    }
+    out
+}
+
+// The table with x in the place of the row of its name, or between the others.
+pub fn grant_login(rows: [Login; LOGIN_ROWS], x: Login) -> [Login; LOGIN_ROWS]
+    ensures { λ r. ⌜ r ≡ grantLogin x rows ⌝ }
+{
+    let i = place_of(rows, x.login);
+    if LOGIN_ROWS <= i {
+        return rows;
+    }
+    let row = rows[i];
+    if row.login == x.login {
+        let mut out = rows;
+        out[i] = x;
+        return out;
+    }
+    insert_at(rows, i, x)
+}
+
+// The table without the login.
+pub fn end_login(rows: [Login; LOGIN_ROWS], login: u32) -> [Login; LOGIN_ROWS]
+    ensures { λ r. ⌜ r ≡ endLogin login rows ⌝ }
+{
+    let mut out = [NO_LOGIN; LOGIN_ROWS];
+    let mut j: usize = 0;
+    let mut i: usize = 0;
+    while i < LOGIN_ROWS {
+        let row = rows[i];
+        if row.login != login {
+            out[j] = row;
+            j = j + 1;
+        }
+        i = i + 1;
+    }
+    out
+}

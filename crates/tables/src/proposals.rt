@@ -1,0 +1,125 @@
+// The table of proposals.
+ghost use mathlib.Core.Path.{_≡_};
+ghost use Rattle.lists.specs.Fold.{count};
+ghost use Rattle.state.specs.Rows.{isProposal};
+ghost use Rattle.tables.specs.Proposals.{isOfCycle, isMature, proposalsFull, addProposal, hasProposal, dropProposal, matureProposal};
+use state::Cycle;
+use state::Day;
+use state::NO_PROPOSAL;
+use state::Proposal;
+use state::Subject;
+use state::limits::PROPOSAL_ROWS;
+
+// The least number of days from a proposal to the action.
+const NOTICE_DAYS: u32 = 7;
+
+// A used row that was announced in this cycle.
+fn is_of_cycle(row: Proposal, c: Cycle) -> bool
+    ensures { λ r. ⌜ r ≡ isOfCycle c row ⌝ }
+{
+    let cycle = row.cycle;
+    row.is_used() & cycle.is_same(c)
+}
+
+// A row of this subject that is mature on the announced day.
+fn is_mature(row: Proposal, subject: Subject, announced: Day) -> bool
+    ensures { λ r. ⌜ r ≡ isMature subject announced row ⌝ }
+{
+    let day = row.day;
+    let own = row.subject;
+    (own.kind == subject.kind)
+        & ((own.arguments == subject.arguments) & (NOTICE_DAYS <= announced.since(day)))
+}
+
+// Whether the last row is used.
+pub fn proposals_full(rows: [Proposal; PROPOSAL_ROWS]) -> bool
+    ensures { λ r. ⌜ r ≡ proposalsFull rows ⌝ }
+{
+    let row = rows[PROPOSAL_ROWS - 1];
+    row.is_used()
+}
+
+// The number of used rows.
+pub fn count_proposals(rows: [Proposal; PROPOSAL_ROWS]) -> u8
+    ensures { λ r. ⌜ r ≡ count isProposal rows ⌝ }
+{
+    let mut n: u8 = 0;
+    let mut i: usize = 0;
+    while i < PROPOSAL_ROWS {
+        let row = rows[i];
+        if row.is_used() {
+            n = n + 1;
+        }
+        i = i + 1;
+    }
+    n
+}
+
+// The table with x in its first unused row, or unchanged where it is full.
+pub fn add_proposal(rows: [Proposal; PROPOSAL_ROWS], x: Proposal) -> [Proposal; PROPOSAL_ROWS]
+    ensures { λ r. ⌜ r ≡ addProposal x rows ⌝ }
+{
+    let mut out = rows;
+    let mut i: usize = 0;
+    while i < PROPOSAL_ROWS {
+        let row = out[i];
+        if !row.is_used() {
+            out[i] = x;
+            return out;
+        }
+        i = i + 1;
+    }
+    out
+}
+
+// Whether a proposal was announced in this cycle.
+pub fn has_proposal(rows: [Proposal; PROPOSAL_ROWS], c: Cycle) -> bool
+    ensures { λ r. ⌜ r ≡ hasProposal c rows ⌝ }
+{
+    let mut i: usize = 0;
+    while i < PROPOSAL_ROWS {
+        let row = rows[i];
+        if is_of_cycle(row, c) {
+            return true;
+        }
+        i = i + 1;
+    }
+    false
+}
+
+// The table without the proposal of this cycle.
+pub fn drop_proposal(rows: [Proposal; PROPOSAL_ROWS], c: Cycle) -> [Proposal; PROPOSAL_ROWS]
+    ensures { λ r. ⌜ r ≡ dropProposal c rows ⌝ }
+{
+    let mut out = [NO_PROPOSAL; PROPOSAL_ROWS];
+    let mut j: usize = 0;
+    let mut i: usize = 0;
+    while i < PROPOSAL_ROWS {
+        let row = rows[i];
+        if !is_of_cycle(row, c) {
+            out[j] = row;
+            j = j + 1;
+        }
+        i = i + 1;
+    }
+    out
+}
+
+// The first row of this subject that is mature on the announced day, or an unused row.
+pub fn mature_proposal(
+    rows: [Proposal; PROPOSAL_ROWS],
+    subject: Subject,
+    announced: Day,
+) -> Proposal
+    ensures { λ r. ⌜ r ≡ matureProposal subject announced rows ⌝ }
+{
+    let mut i: usize = 0;
+    while i < PROPOSAL_ROWS {
+        let row = rows[i];
+        if is_mature(row, subject, announced) {
+            return row;
+        }
+        i = i + 1;
+    }
+    NO_PROPOSAL
+}

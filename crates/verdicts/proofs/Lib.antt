@@ -1,0 +1,2 @@
+-- Laws of the bytes of a vote.
+pub mod VoteBytes

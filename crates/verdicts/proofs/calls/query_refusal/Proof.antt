@@ -1,0 +1,66 @@
+use mathlib.Core.Path.{sym, _∙_}
+use borrow.Author.Tests.{le-leb, lt-leb}
+use Rattle.verdicts.specs.Verdicts.{queryRefusal}
+use borrow.Author.Needs.{needs}
+use Rattle.verdicts.proofs.calls.query_refusal.Statement.{statement}
+use Rattle.verdicts.proofs.calls.query_refusal.Tie as tie
+
+later-requires : tie.Need-later-requires
+later-requires c κs = search needs
+
+is-halted-requires : tie.Need-is-halted-requires
+is-halted-requires c κs = search needs
+
+returns : tie.Need-returns
+unfolding queryRefusal
+returns c = rw (sym (c .before .is-halted .ensures) ∙ c .if1 .taken)
+
+returns-2 : tie.Need-returns-2
+unfolding queryRefusal
+returns-2 c =
+    let running = c .before .before in
+    rw (sym (running .before .is-halted .ensures) ∙ running .if1 .left, le-leb _ _ (c .if2 .taken))
+
+is-silent-requires : tie.Need-is-silent-requires
+is-silent-requires c κs = search needs
+
+returns-3 : tie.Need-returns-3
+unfolding queryRefusal
+returns-3 c =
+    let unlocked = c .before .before in
+    let running = unlocked .before .before in
+    rw (
+      sym (running .before .is-halted .ensures) ∙ running .if1 .left,
+      lt-leb _ _ (unlocked .if2 .left),
+      ← running .before .before .later .ensures,
+      sym (c .before .is-silent .ensures) ∙ c .if3 .taken,
+    )
+
+login-refusal-requires : tie.Need-login-refusal-requires
+login-refusal-requires c κs = search needs
+
+returns-4 : tie.Need-returns-4
+unfolding queryRefusal
+returns-4 c =
+    let heard = c .before in
+    let unlocked = heard .before .before in
+    let running = unlocked .before .before in
+    rw (
+      sym (running .before .is-halted .ensures) ∙ running .if1 .left,
+      lt-leb _ _ (unlocked .if2 .left),
+      ← running .before .before .later .ensures,
+      sym (heard .before .is-silent .ensures) ∙ heard .if3 .left,
+    ) (c .login-refusal .ensures)
+
+pub query-refusal-spec : {M : Type 1} → statement M
+query-refusal-spec =
+    tie.close
+    (tie.spec
+    later-requires
+    is-halted-requires
+    returns
+    returns-2
+    is-silent-requires
+    returns-3
+    login-refusal-requires
+    returns-4)

@@ -1,0 +1,112 @@
+// The lowest number of the table of no that applies to a call, or 0.
+ghost use mathlib.Core.Path.{_≡_};
+ghost use mathlib.Core.Bool.{true};
+ghost use lib.ListN.{length};
+ghost use Rattle.records.specs.Layout.{announcementSize};
+ghost use Rattle.records.specs.Sheet.{isSheet};
+ghost use Rattle.verdicts.specs.Verdicts.{deliverRefusal, showsQuorum, voteRefusal, loginRefusal, queryRefusal, startRefusal};
+use crate::MOST_MISSES;
+use crate::Own;
+use crate::own_part::can_vote;
+use crate::own_part::is_halted;
+use crate::own_part::voted_otherwise;
+use records::Announcement;
+use records::Query;
+use records::Start;
+use records::counted_seats;
+use records::layout::MASK1_AT;
+use records::layout::MASK2_AT;
+use refusals::or_else;
+use refusals::refuse_if;
+use rules::action_refusal;
+use rules::time_refusal;
+use state::State;
+use state::is_silent;
+use state::seats::quorum_of;
+use state::seats::seat_at;
+use tables::logins::find_login;
+
+// Rules 3 to 14 for an announcement with its sheet.
+pub fn deliver_refusal(s: State, own: Own, a: Announcement, sheet: &[u8]) -> u8
+    requires { ⌜ isSheet (now sheet) ≡ true ⌝ }
+    ensures { λ r. ⌜ r ≡ deliverRefusal s own a (now (sheet .entry)) ⌝ }
+{
+    let cycle = s.cycle;
+    let day = s.day;
+    let announced = a.day;
+    let action = a.action;
+    if is_halted(s, own) {
+        return 3;
+    }
+    let untimely = time_refusal(cycle, day, a);
+    or_else(
+        untimely,
+        action_refusal(s, announced, sheet[MASK1_AT], sheet[MASK2_AT], action),
+    )
+}
+
+// Whether the sheet shows a quorum of this state.
+pub fn shows_quorum(s: State, sheet: &[u8]) -> bool
+    requires { ⌜ isSheet (now sheet) ≡ true ⌝ }
+    ensures { λ r. ⌜ r ≡ showsQuorum s (now (sheet .entry)) ⌝ }
+{
+    let seats = s.seats;
+    let counted = counted_seats(sheet, seats);
+    quorum_of(s) <= (counted as u32)
+}
+
+// Rules 15 and 16.
+pub fn vote_refusal(s: State, own: Own, announcement: &[u8]) -> u8
+    requires { ⌜ length (now announcement) ≡ announcementSize ⌝ }
+    ensures { λ r. ⌜ r ≡ voteRefusal s own (now (announcement .entry)) ⌝ }
+{
+    let absent = refuse_if(!can_vote(s, own), 15);
+    or_else(absent, refuse_if(voted_otherwise(own, announcement), 16))
+}
+
+// Rules 19 to 21.
+fn login_refusal(s: State, q: Query) -> u8
+    ensures { λ r. ⌜ r ≡ loginRefusal s q ⌝ }
+{
+    let logins = s.logins;
+    let given = q.day;
+    let t = given.later(s.day);
+    let row = find_login(logins, q.login);
+    if !row.is_used() {
+        return 19;
+    }
+    if row.is_ended(t) {
+        return 20;
+    }
+    refuse_if(!row.holds_right(q.right), 21)
+}
+
+// Rules 3 and 17 to 21.
+pub fn query_refusal(s: State, own: Own, q: Query) -> u8
+    ensures { λ r. ⌜ r ≡ queryRefusal s own q ⌝ }
+{
+    let agreed = s.day;
+    let minima = s.minima;
+    let given = q.day;
+    let t = given.later(agreed);
+    if is_halted(s, own) {
+        return 3;
+    }
+    if MOST_MISSES <= own.misses {
+        return 17;
+    }
+    if is_silent(agreed, minima.silence, t) {
+        return 18;
+    }
+    login_refusal(s, q)
+}
+
+// Rules 9 and 14 for a start.
+pub fn start_refusal(s: State, x: Start) -> u8
+    ensures { λ r. ⌜ r ≡ startRefusal s x ⌝ }
+{
+    let seats = s.seats;
+    let seat = seat_at(seats, x.seat);
+    let unfit = refuse_if(!seat.is_active(), 9);
+    or_else(unfit, refuse_if(x.life < seat.life, 14))
+}

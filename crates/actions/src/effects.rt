@@ -145,14 +145,17 @@ fn use_proposal(s: State, subject: Subject, d: Day) -> State
 fn act(s: State, d: Day, action: Action) -> State
     ensures { λ r. ⌜ r ≡ act s d action ⌝ }
 {
-    let subject = action.subject();
     match action {
-        Action::Propose { subject: proposed } => propose(s, d, proposed),
+        Action::Propose { subject } => propose(s, d, subject),
         Action::Cancel { cycle } => cancel(s, cycle),
         Action::Presents { seat, flag } => with_standing(s, seat, given_standing(flag)),
-        Action::Certify { seat, life } => use_proposal(certify(s, seat, life), subject, d),
-        Action::Minima { minima } => use_proposal(with_minima(s, minima), subject, d),
-        Action::Remove { seat } => use_proposal(with_standing(s, seat, RETIRED), subject, d),
+        Action::Certify { seat, life } => use_proposal(certify(s, seat, life), action.subject(), d),
+        Action::Minima { minima } => use_proposal(with_minima(s, minima), action.subject(), d),
+        Action::Remove { seat } => use_proposal(
+            with_standing(s, seat, RETIRED),
+            action.subject(),
+            d,
+        ),
         Action::Rejoin { seat, life } => with_life(s, seat, life),
         Action::Grant { row } => grant(s, row),
         Action::End { login } => end(s, login),

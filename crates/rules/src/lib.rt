@@ -90,26 +90,25 @@ pub fn action_refusal(s: State, d: Day, mask1: u8, mask2: u8, action: Action) ->
     let kind = action.kind();
     let level1 = trustee_refusal(s.trustees1, mask1);
     let level2 = trustee_refusal(s.trustees2, mask2);
-    let rows = s.proposals;
     match kind {
         PROPOSE => refusal(level1, NONE, propose_check(s, action)),
         CANCEL => refusal(level1, NONE, cancel_check(s, action)),
         PRESENTS => refusal(level1, NONE, presents_check(s, action)),
-        CERTIFY => refusal(
-            level2,
-            notice_refusal(rows, d, action),
-            certify_check(s, action),
-        ),
-        MINIMA => refusal(
-            level2,
-            notice_refusal(rows, d, action),
-            minima_check(s, action),
-        ),
-        REMOVE => refusal(
-            level2,
-            notice_refusal(rows, d, action),
-            remove_check(s, action),
-        ),
+        CERTIFY => {
+            let rows = s.proposals;
+            let notice = notice_refusal(rows, d, action);
+            refusal(level2, notice, certify_check(s, action))
+        }
+        MINIMA => {
+            let rows = s.proposals;
+            let notice = notice_refusal(rows, d, action);
+            refusal(level2, notice, minima_check(s, action))
+        }
+        REMOVE => {
+            let rows = s.proposals;
+            let notice = notice_refusal(rows, d, action);
+            refusal(level2, notice, remove_check(s, action))
+        }
         REJOIN => refusal(level1, NONE, rejoin_check(s, action)),
         GRANT => refusal(level1, NONE, grant_check(s, d, action)),
         END => refusal(level1, NONE, end_check(s, action)),

@@ -20,19 +20,19 @@ trustee-refusal-requires-2 : tie.Need-trustee-refusal-requires-2
 trustee-refusal-requires-2 c κs = search needs
 
 propose-check-requires : tie.Need-propose-check-requires
-propose-check-requires c κs = of-kind (c .before .before .before .before) (c .match .keys1)
+propose-check-requires c κs = of-kind (c .before .before .before) (c .match .keys1)
 
 refusal-requires : tie.Need-refusal-requires
 refusal-requires c κs = search needs
 
 cancel-check-requires : tie.Need-cancel-check-requires
-cancel-check-requires c κs = of-kind (c .before .before .before .before) (c .match .keys2)
+cancel-check-requires c κs = of-kind (c .before .before .before) (c .match .keys2)
 
 refusal-requires-2 : tie.Need-refusal-requires-2
 refusal-requires-2 c κs = search needs
 
 presents-check-requires : tie.Need-presents-check-requires
-presents-check-requires c κs = of-kind (c .before .before .before .before) (c .match .keys3)
+presents-check-requires c κs = of-kind (c .before .before .before) (c .match .keys3)
 
 refusal-requires-3 : tie.Need-refusal-requires-3
 refusal-requires-3 c κs = search needs
@@ -41,7 +41,7 @@ notice-refusal-requires : tie.Need-notice-refusal-requires
 notice-refusal-requires c κs = search needs
 
 certify-check-requires : tie.Need-certify-check-requires
-certify-check-requires c κs = of-kind (c .before .before .before .before .before) (c .before .match .keys4)
+certify-check-requires c κs = of-kind (c .before .before .before .before .before) (c .before .before .match .keys4)
 
 refusal-requires-4 : tie.Need-refusal-requires-4
 refusal-requires-4 c κs = search needs
@@ -50,7 +50,7 @@ notice-refusal-requires-2 : tie.Need-notice-refusal-requires-2
 notice-refusal-requires-2 c κs = search needs
 
 minima-check-requires : tie.Need-minima-check-requires
-minima-check-requires c κs = of-kind (c .before .before .before .before .before) (c .before .match .keys5)
+minima-check-requires c κs = of-kind (c .before .before .before .before .before) (c .before .before .match .keys5)
 
 refusal-requires-5 : tie.Need-refusal-requires-5
 refusal-requires-5 c κs = search needs
@@ -59,25 +59,25 @@ notice-refusal-requires-3 : tie.Need-notice-refusal-requires-3
 notice-refusal-requires-3 c κs = search needs
 
 remove-check-requires : tie.Need-remove-check-requires
-remove-check-requires c κs = of-kind (c .before .before .before .before .before) (c .before .match .keys6)
+remove-check-requires c κs = of-kind (c .before .before .before .before .before) (c .before .before .match .keys6)
 
 refusal-requires-6 : tie.Need-refusal-requires-6
 refusal-requires-6 c κs = search needs
 
 rejoin-check-requires : tie.Need-rejoin-check-requires
-rejoin-check-requires c κs = of-kind (c .before .before .before .before) (c .match .keys7)
+rejoin-check-requires c κs = of-kind (c .before .before .before) (c .match .keys7)
 
 refusal-requires-7 : tie.Need-refusal-requires-7
 refusal-requires-7 c κs = search needs
 
 grant-check-requires : tie.Need-grant-check-requires
-grant-check-requires c κs = of-kind (c .before .before .before .before) (c .match .keys8)
+grant-check-requires c κs = of-kind (c .before .before .before) (c .match .keys8)
 
 refusal-requires-8 : tie.Need-refusal-requires-8
 refusal-requires-8 c κs = search needs
 
 end-check-requires : tie.Need-end-check-requires
-end-check-requires c κs = of-kind (c .before .before .before .before) (c .match .keys9)
+end-check-requires c κs = of-kind (c .before .before .before) (c .match .keys9)
 
 refusal-requires-9 : tie.Need-refusal-requires-9
 refusal-requires-9 c κs = search needs
@@ -86,7 +86,7 @@ returns : tie.Need-returns
 returns c =
     let check = c .before in
     let arm = check .before in
-    let levels = arm .before .before in
+    let levels = arm .before in
     let kind = levels .before .before in
     let start = kind .before in
     let e = of-kind kind (arm .match .keys1) in
@@ -98,7 +98,7 @@ returns-2 : tie.Need-returns-2
 returns-2 c =
     let check = c .before in
     let arm = check .before in
-    let levels = arm .before .before in
+    let levels = arm .before in
     let kind = levels .before .before in
     let start = kind .before in
     let e = of-kind kind (arm .match .keys2) in
@@ -110,7 +110,7 @@ returns-3 : tie.Need-returns-3
 returns-3 c =
     let check = c .before in
     let arm = check .before in
-    let levels = arm .before .before in
+    let levels = arm .before in
     let kind = levels .before .before in
     let start = kind .before in
     let e = of-kind kind (arm .match .keys3) in
@@ -121,8 +121,8 @@ returns-3 c =
 returns-4 : tie.Need-returns-4
 returns-4 c =
     let check = c .before in
-    let arm = check .before .before in
-    let levels = arm .before .before in
+    let arm = check .before .before .before in
+    let levels = arm .before in
     let kind = levels .before .before in
     let start = kind .before in
     let e = of-kind kind (arm .match .keys4) in
@@ -134,8 +134,8 @@ returns-4 c =
 returns-5 : tie.Need-returns-5
 returns-5 c =
     let check = c .before in
-    let arm = check .before .before in
-    let levels = arm .before .before in
+    let arm = check .before .before .before in
+    let levels = arm .before in
     let kind = levels .before .before in
     let start = kind .before in
     let e = of-kind kind (arm .match .keys5) in
@@ -147,8 +147,8 @@ returns-5 c =
 returns-6 : tie.Need-returns-6
 returns-6 c =
     let check = c .before in
-    let arm = check .before .before in
-    let levels = arm .before .before in
+    let arm = check .before .before .before in
+    let levels = arm .before in
     let kind = levels .before .before in
     let start = kind .before in
     let e = of-kind kind (arm .match .keys6) in
@@ -161,7 +161,7 @@ returns-7 : tie.Need-returns-7
 returns-7 c =
     let check = c .before in
     let arm = check .before in
-    let levels = arm .before .before in
+    let levels = arm .before in
     let kind = levels .before .before in
     let start = kind .before in
     let e = of-kind kind (arm .match .keys7) in
@@ -173,7 +173,7 @@ returns-8 : tie.Need-returns-8
 returns-8 c =
     let check = c .before in
     let arm = check .before in
-    let levels = arm .before .before in
+    let levels = arm .before in
     let kind = levels .before .before in
     let start = kind .before in
     let e = of-kind kind (arm .match .keys8) in
@@ -184,7 +184,7 @@ returns-9 : tie.Need-returns-9
 returns-9 c =
     let check = c .before in
     let arm = check .before in
-    let levels = arm .before .before in
+    let levels = arm .before in
     let kind = levels .before .before in
     let start = kind .before in
     let e = of-kind kind (arm .match .keys9) in
@@ -193,7 +193,7 @@ returns-9 c =
 
 returns-10 : tie.Need-returns-10
 returns-10 c =
-    let e = c .before .before .before .before in
+    let e = c .before .before .before in
     let k = e .kind .ensures in
     let n₉ = c .match .rest in
     let n₆ = n₉ .0 .0 .0 in

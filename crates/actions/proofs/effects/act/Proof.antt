@@ -3,9 +3,6 @@ use borrow.Author.Needs.{needs}
 use Rattle.actions.proofs.effects.act.Statement.{statement}
 use Rattle.actions.proofs.effects.act.Tie as tie
 
-subject-requires : tie.Need-subject-requires
-subject-requires c κs = search needs
-
 enum-known-action : tie.Need-enum-known-action
 enum-known-action c = search needs
 
@@ -33,6 +30,9 @@ enum-known-action-4 c = search needs
 certify-requires : tie.Need-certify-requires
 certify-requires c κs = search needs
 
+subject-requires : tie.Need-subject-requires
+subject-requires c κs = search needs
+
 use-proposal-requires : tie.Need-use-proposal-requires
 use-proposal-requires c κs = search needs
 
@@ -42,6 +42,9 @@ enum-known-action-5 c = search needs
 with-minima-requires : tie.Need-with-minima-requires
 with-minima-requires c κs = search needs
 
+subject-requires-2 : tie.Need-subject-requires-2
+subject-requires-2 c κs = search needs
+
 use-proposal-requires-2 : tie.Need-use-proposal-requires-2
 use-proposal-requires-2 c κs = search needs
 
@@ -50,6 +53,9 @@ enum-known-action-6 c = search needs
 
 with-standing-requires-2 : tie.Need-with-standing-requires-2
 with-standing-requires-2 c κs = search needs
+
+subject-requires-3 : tie.Need-subject-requires-3
+subject-requires-3 c κs = search needs
 
 use-proposal-requires-3 : tie.Need-use-proposal-requires-3
 use-proposal-requires-3 c κs = search needs
@@ -78,7 +84,7 @@ returns c = rw (c .before .before .action .given .1) (c .propose .ensures)
 
 returns-2 : tie.Need-returns-2
 unfolding act useProposal effect
-returns-2 c = rw (c .before .before .action2 .given .1) (c .cancel .ensures (c .before .before .before .before .before .args .d))
+returns-2 c = rw (c .before .before .action2 .given .1) (c .cancel .ensures (c .before .before .before .before .args .d))
 
 returns-3 : tie.Need-returns-3
 unfolding act useProposal effect
@@ -87,23 +93,23 @@ returns-3 c = rw (c .before .before .before .action3 .given .1, ← c .before .g
 returns-4 : tie.Need-returns-4
 unfolding act effect
 returns-4 c =
-    let arm = c .before .before .before in
-    let subject = arm .before .before in
-    rw (← subject .subject .ensures, arm .action4 .given .1, ← c .before .certify .ensures (subject .before .args .d)) (c .use-proposal .ensures)
+    let done = c .before .before in
+    let arm = done .before .before in
+    rw (arm .action4 .given .1, ← c .before .subject .ensures, ← done .certify .ensures (arm .before .before .args .d)) (c .use-proposal .ensures)
 
 returns-5 : tie.Need-returns-5
 unfolding act effect
 returns-5 c =
-    let arm = c .before .before .before in
-    let subject = arm .before .before in
-    rw (← subject .subject .ensures, arm .action5 .given .1, ← c .before .with-minima .ensures) (c .use-proposal2 .ensures)
+    let done = c .before .before in
+    let arm = done .before .before in
+    rw (arm .action5 .given .1, ← c .before .subject2 .ensures, ← done .with-minima .ensures) (c .use-proposal2 .ensures)
 
 returns-6 : tie.Need-returns-6
 unfolding act effect
 returns-6 c =
-    let arm = c .before .before .before in
-    let subject = arm .before .before in
-    rw (← subject .subject .ensures, arm .action6 .given .1, ← c .before .with-standing2 .ensures) (c .use-proposal3 .ensures)
+    let done = c .before .before in
+    let arm = done .before .before in
+    rw (arm .action6 .given .1, ← c .before .subject3 .ensures, ← done .with-standing2 .ensures) (c .use-proposal3 .ensures)
 
 returns-7 : tie.Need-returns-7
 unfolding act useProposal effect
@@ -111,17 +117,16 @@ returns-7 c = rw (c .before .before .action7 .given .1) (c .with-life .ensures)
 
 returns-8 : tie.Need-returns-8
 unfolding act useProposal effect
-returns-8 c = rw (c .before .before .action8 .given .1) (c .grant .ensures (c .before .before .before .before .before .args .d))
+returns-8 c = rw (c .before .before .action8 .given .1) (c .grant .ensures (c .before .before .before .before .args .d))
 
 returns-9 : tie.Need-returns-9
 unfolding act useProposal effect
-returns-9 c = rw (c .before .before .action9 .given .1) (c .end .ensures (c .before .before .before .before .before .args .d))
+returns-9 c = rw (c .before .before .action9 .given .1) (c .end .ensures (c .before .before .before .before .args .d))
 
 pub act-spec : {M : Type 1} → statement M
 act-spec =
     tie.close
     (tie.spec
-    subject-requires
     enum-known-action
     propose-requires
     enum-known-action-2
@@ -131,12 +136,15 @@ act-spec =
     with-standing-requires
     enum-known-action-4
     certify-requires
+    subject-requires
     use-proposal-requires
     enum-known-action-5
     with-minima-requires
+    subject-requires-2
     use-proposal-requires-2
     enum-known-action-6
     with-standing-requires-2
+    subject-requires-3
     use-proposal-requires-3
     enum-known-action-7
     with-life-requires

@@ -9,8 +9,7 @@ use native.Mathlib.Omega.{arith}
 use lib.Dec.{eqb}
 use Rattle.lists.proofs.Tests.{clash}
 use Rattle.state.specs.declared.State.{State}
-use Rattle.checkpoint.specs.declared.CheckpointRead.{CheckpointRead}
-use Rattle.checkpoint.specs.Checkpoint.{checkpointBytes, readCheckpoint}
+use Rattle.checkpoint.specs.Checkpoint.{CheckpointRead, checkpointBytes, readCheckpoint}
 use Rattle.checkpoint.proofs.RoundTrips.{state-read-back}
 use Rattle.actions.specs.Claims.{WellFormed}
 use Rattle.node.specs.declared.Node.{Node}

@@ -8,7 +8,6 @@ use Rattle.state.specs.declared.State.{State}
 use Rattle.state.specs.WellFormed.{isWellFormed, blankState}
 use Rattle.checkpoint.specs.Layout.{kindCheckpoint, checkpointLength}
 use Rattle.checkpoint.specs.Format.{Counted, counted, checkpoint, body}
-use Rattle.checkpoint.specs.declared.CheckpointRead.{CheckpointRead}
 
 -- what a State in memory is: each number within its width, 32 seats, 16 proposals and 64 logins
 abbrev pub Fits : State → Type 0
@@ -27,6 +26,11 @@ isCheckpoint b =
     let c = decodeCheckpoint b in
     isRecord checkpointLength kindCheckpoint b
     && ((eqb (c .proposals) (counted (c .state) .proposals) && eqb (c .logins) (counted (c .state) .logins)) && isWellFormed (c .state))
+
+-- what reading a checkpoint gives: the state, or a blank one where the bytes are not a well-formed checkpoint
+pub record CheckpointRead : Type 0 where
+  pub ok : Bool
+  pub state : State
 
 unfoldable pub readCheckpoint : List ℕ → CheckpointRead
 readCheckpoint b = cond (isCheckpoint b) (record { ok = true; state = decodeCheckpoint b .state }) (record { ok = false; state = blankState })

@@ -2,7 +2,6 @@
 use state::Cycle;
 use state::Day;
 use state::Minima;
-use state::State;
 
 mod check;
 pub mod layout;
@@ -11,7 +10,6 @@ mod write;
 
 pub use check::is_checkpoint;
 pub use read::cycle_in;
-pub use read::read_checkpoint;
 pub use read::standing_in;
 pub use read::state_in;
 pub use write::write_checkpoint;
@@ -23,10 +21,4 @@ pub struct Head {
     pub trustees1: u8,
     pub trustees2: u8,
     pub minima: Minima,
-}
-
-// What reading a checkpoint gives: the state, or a blank one where the bytes are not a well-formed checkpoint.
-pub struct CheckpointRead {
-    pub ok: bool,
-    pub state: State,
 }

@@ -1,18 +1,14 @@
 // A checkpoint read from a slice.
 ghost use mathlib.Core.Path.{_≡_};
-ghost use mathlib.Core.Bool.{false};
 ghost use Prim.Native.Nat.{_+_, _*_, _≤_};
 ghost use lib.ListN.{length, drop};
 ghost use Rattle.binary.specs.Codec.{decodeRows};
 ghost use Rattle.state.specs.Limits.{seatCount, proposalRows, loginRows};
 ghost use Rattle.state.specs.Seats.{seatAt};
-ghost use Rattle.state.specs.WellFormed.{blankState};
 ghost use Rattle.checkpoint.specs.Layout.{checkpointSize, headAt, seatSize, proposalSize, loginSize};
 ghost use Rattle.checkpoint.specs.Format.{head, seat, proposal, login};
-ghost use Rattle.checkpoint.specs.Checkpoint.{decodeCheckpoint, readCheckpoint};
-use crate::CheckpointRead;
+ghost use Rattle.checkpoint.specs.Checkpoint.{decodeCheckpoint};
 use crate::Head;
-use crate::is_checkpoint;
 use crate::layout::HEAD_AT;
 use crate::layout::LOGIN_SIZE;
 use crate::layout::LOGINS_AT;
@@ -34,7 +30,6 @@ use state::Proposal;
 use state::Seat;
 use state::State;
 use state::Subject;
-use state::blank_state;
 use state::limits::LOGIN_ROWS;
 use state::limits::PROPOSAL_ROWS;
 use state::limits::SEATS;
@@ -133,18 +128,19 @@ fn logins_at(b: &[u8], at: usize) -> [Login; LOGIN_ROWS]
     rows
 }
 
-// The state in a checkpoint's bytes, whatever they are.
+// The state in a checkpoint's bytes, whatever they are. The logins come first: with their loop behind the other tables, the compiler keeps
+// those tables' numbers on the stack until it has run.
 pub fn state_in(b: &[u8]) -> State
     requires { ⌜ checkpointSize ≤ length (now b) ⌝ }
     ensures { λ r. ⌜ r ≡ decodeCheckpoint (now (b .entry)) .state ⌝ }
 {
+    let logins = logins_at(b, LOGINS_AT);
     let head = head_in(b);
     let cycle = head.cycle;
     let day = head.day;
     let minima = head.minima;
     let seats = seats_at(b, SEATS_AT);
     let proposals = proposals_at(b, PROPOSALS_AT);
-    let logins = logins_at(b, LOGINS_AT);
     State {
         cycle: cycle,
         day: day,
@@ -175,27 +171,4 @@ pub fn standing_in(b: &[u8], i: u8) -> u8
         return FREE;
     }
     b[SEATS_AT + SEAT_SIZE * at]
-}
-
-// The answer to bytes that are not a checkpoint.
-fn no_checkpoint() -> CheckpointRead
-    ensures { λ r. ⌜ r ≡ record { ok = false; state = blankState } ⌝ }
-{
-    CheckpointRead {
-        ok: false,
-        state: blank_state(),
-    }
-}
-
-// Reads a slice that is to be exactly one well-formed checkpoint.
-pub fn read_checkpoint(b: &[u8]) -> CheckpointRead
-    ensures { λ r. ⌜ r ≡ readCheckpoint (now (b .entry)) ⌝ }
-{
-    if is_checkpoint(b) {
-        return CheckpointRead {
-            ok: true,
-            state: state_in(b),
-        };
-    }
-    no_checkpoint()
 }

@@ -1,12 +1,13 @@
 -- One turn of a loop over a list, and its end, for each fold and each operation on tables. The loop stands at index i of the list.
 use mathlib.Core.Path.{_≡_, refl, sym, ap, _∙_}
-use mathlib.Core.Bool.{Bool, true, false, _&&_}
+use mathlib.Core.Bool.{Bool, true, false, not, _&&_, _||_, false≢true, and-true, and-false}
 use mathlib.Core.List.{List, _∷_, _++_, append-assoc, append-nil}
 use Prim.Native.Nat.{ℕ, suc, _+_, _-_, _<_, _≤_}
 use native.Mathlib.Numerals.{add-one}
 use native.Mathlib.Nat.{sub-zero}
 use native.Mathlib.Omega.{arith}
-use lib.Dec.{leb}
+use borrow.Author.Tests.{ltb-true, ltb-false}
+use lib.Dec.{leb, ltb}
 use lib.ListN.{length, getD, take, drop, set, replicate, drop-of-length-le, length-set, length-replicate, take-append-drop}
 use lib.Seq.{drop-cons, take-suc, take-suc-set, drop-set-lt, take-all, set-split, length-take-le, take-append-seam}
 use Rattle.lists.specs.Fold.{any, all, count, first}
@@ -23,13 +24,9 @@ module _ {A : Type 0} (p : A → Bool) (l : List A) (i : ℕ) (d : A) (h : i < l
   unfolding count
   count-fail e = rw (add-one, drop-cons l i d h, e) (omega arith)
 
-  pub any-pass : p (getD l i d) ≡ true → any p (drop i l) ≡ true
+  pub any-turn : any p (drop i l) ≡ (p (getD l i d) || any p (drop (i + 1) l))
   unfolding any
-  any-pass e = rw (drop-cons l i d h, e)
-
-  pub any-fail : p (getD l i d) ≡ false → any p (drop i l) ≡ any p (drop (i + 1) l)
-  unfolding any
-  any-fail e = rw (add-one, drop-cons l i d h, e)
+  any-turn = rw (add-one, drop-cons l i d h)
 
   pub all-pass : p (getD l i d) ≡ true → all p (drop i l) ≡ all p (drop (i + 1) l)
   unfolding all
@@ -76,6 +73,21 @@ module _ {A : Type 0} (p : A → Bool) (l : List A) (i : ℕ) (h : length l ≤ 
   pub index-end : indexOf p (drop i l) ≡ 0
   unfolding indexOf
   index-end = rw (drop-of-length-le l {i = i} h)
+
+-- A loop over n elements whose condition also ends it, once one has passed.
+pub seek-inside : (n i : ℕ) (found : Bool) → (ltb i n && not found) ≡ true → i < n
+seek-inside n i false e = ltb-true i n (sym (and-true (ltb i n)) ∙ e)
+seek-inside n i true e = absurd (false≢true (sym (and-false (ltb i n)) ∙ e))
+
+module _ {A : Type 0} (p : A → Bool) (l : List A) (n : ℕ) (m : length l ≡ n) (i : ℕ) where
+  pub seek-turn : (d : A) (found passes : Bool) → (ltb i n && not found) ≡ true → passes ≡ p (getD l i d)
+      → any p l ≡ (found || any p (drop i l)) → any p l ≡ (passes || any p (drop (i + 1) l))
+  seek-turn d false passes e q s = rw q (s ∙ any-turn p l i d (omega (arith, m, seek-inside n i false e)))
+  seek-turn d true passes e q s = absurd (false≢true (sym (and-false (ltb i n)) ∙ e))
+
+  pub seek-end : (found : Bool) → (ltb i n && not found) ≡ false → any p l ≡ (found || any p (drop i l)) → found ≡ any p l
+  seek-end true e s = sym s
+  seek-end false e s = sym (s ∙ any-end p l i (omega (arith, m, ltb-false i n (sym (and-true (ltb i n)) ∙ e))))
 
 -- A loop that copies the rows that pass into a table of n unused rows.
 module _ {A : Type 0} (p : A → Bool) (n : ℕ) (z : A) where

@@ -12,14 +12,12 @@ use Rattle.records.specs.declared.Start.{Start}
 use Rattle.records.specs.declared.StartRead.{StartRead}
 use Rattle.records.specs.declared.StartRead.the-variants.{Read, Malformed}
 use Rattle.records.specs.StartQuery.{readStart}
-use Rattle.checkpoint.specs.declared.CheckpointRead.{CheckpointRead}
-use Rattle.checkpoint.specs.Checkpoint.{isCheckpoint, readCheckpoint}
+use Rattle.checkpoint.specs.Checkpoint.{CheckpointRead, isCheckpoint, readCheckpoint}
 use Rattle.refusals.proofs.Chains.{passes-rule, unrefused, by-rule, refused, not-zero}
 use Rattle.verdicts.specs.Verdicts.{startRefusal}
 use Rattle.node.specs.declared.StartReply.{StartReply}
 use Rattle.node.specs.declared.StartAnswer.the-variants.{Started}
 use Rattle.node.specs.Start.{refusesStart, startRead, startRecords, startOf}
-use Rattle.node.specs.Code.{recordsRefusal, ownNamed}
 use Rattle.node.specs.Claims.{StartRefused, start-malformed, checkpoint-malformed, seat-unfit, life-below, Starting, refuses, starts}
 use Rattle.node.specs.Claims.{StartComesTo}
 
@@ -47,17 +45,6 @@ module _ (cb sb : List ℕ) (x : Start) (rx : readStart sb ≡ Read x) where
       let p = passes-rule (not (isActive seat)) 9 _ refl (eqb-true _ _ z) in
       starts x rx rc (not-false _ (p .0)) (ltb-false _ _ (unrefused (ltb (x .life) (seat .life)) 14 refl (p .1))) refl)
       (λ z. refuses _ (why rc _ (not-zero _ z) refl) refl)
-
--- a start by the number that refuses it
-pub by-number : (c : CheckpointRead) (o : StartRead) → startRecords c o
-    ≡ cond (eqb (recordsRefusal c o) 0) (record { node = record { state = c .state; own = ownNamed o }; answer = Started })
-    (refusesStart (recordsRefusal c o))
-unfolding startRead
-by-number c Malformed = refl
-by-number c (Read x) = cond-cases
-    (λ (r : StartReply). r ≡ cond (eqb (recordsRefusal c (Read x)) 0)
-    (record { node = record { state = c .state; own = ownNamed (Read x) }; answer = Started }) (refusesStart (recordsRefusal c (Read x))))
-    (c .ok) (λ e. rw e) (λ e. rw e)
 
 by-records : (cb sb : List ℕ) (o : StartRead) → readStart sb ≡ o → Starting cb sb (startRecords (readCheckpoint cb) o)
 by-records cb sb Malformed e = refuses 1 (start-malformed refl e) refl

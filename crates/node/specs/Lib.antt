@@ -4,7 +4,6 @@ pub mod Deliver
 pub mod Query
 pub mod Start
 pub mod Checkpoint
-pub mod Code
 pub mod WellFormed
 pub mod Claims
 pub mod Applies

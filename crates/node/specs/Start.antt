@@ -11,8 +11,7 @@ use Rattle.records.specs.declared.Start.{Start}
 use Rattle.records.specs.declared.StartRead.{StartRead}
 use Rattle.records.specs.declared.StartRead.the-variants.{Read, Malformed}
 use Rattle.records.specs.StartQuery.{readStart}
-use Rattle.checkpoint.specs.declared.CheckpointRead.{CheckpointRead}
-use Rattle.checkpoint.specs.Checkpoint.{readCheckpoint}
+use Rattle.checkpoint.specs.Checkpoint.{CheckpointRead, readCheckpoint}
 use Rattle.verdicts.specs.Own.{ownAfresh}
 use Rattle.verdicts.specs.Verdicts.{startRefusal}
 use Rattle.node.specs.declared.Node.{Node}

@@ -8,8 +8,7 @@ ghost use Rattle.records.specs.Sheet.{isSheet};
 ghost use Rattle.node.specs.Deliver.{refusesDelivery, performs, votes, deliverRead, deliverOf};
 ghost use Rattle.verdicts.specs.Own.{mostMisses};
 ghost use Rattle.node.specs.Query.{withMissCount, addsMiss, queryReply, queryOf};
-ghost use Rattle.node.specs.Start.{blankNode, refusesStart, startOf};
-ghost use Rattle.node.specs.Code.{recordsRefusal, ownNamed};
+ghost use Rattle.node.specs.Start.{blankNode, refusesStart, startRead, startOf};
 ghost use Rattle.node.specs.Checkpoint.{checkpointOf, checkpointSlice};
 use crate::CheckpointAnswer;
 use crate::CheckpointReply;
@@ -21,20 +20,21 @@ use crate::QueryReply;
 use crate::StartAnswer;
 use crate::StartReply;
 use actions::perform;
-use checkpoint::CheckpointRead;
+use checkpoint::is_checkpoint;
 use checkpoint::layout::CHECKPOINT_SIZE;
-use checkpoint::read_checkpoint;
+use checkpoint::state_in;
 use checkpoint::write_checkpoint;
 use records::Announcement;
 use records::AnnouncementRead;
 use records::QueryRead;
+use records::Start;
 use records::StartRead;
 use records::is_sheet;
 use records::read_announcement;
 use records::read_query;
 use records::read_start;
+use state::State;
 use state::blank_state;
-use verdicts::Own;
 use verdicts::deliver_refusal;
 use verdicts::own_afresh;
 use verdicts::query_refusal;
@@ -104,28 +104,19 @@ fn refuse_start(number: u8) -> StartReply
     }
 }
 
-// The number that refuses a start, of what its two readers gave, or 0.
-fn records_refusal(c: CheckpointRead, read: StartRead) -> u8
-    ensures { λ r. ⌜ r ≡ recordsRefusal c read ⌝ }
+// A well-formed start record with the state of a well-formed checkpoint.
+fn start_read(s: State, x: Start) -> StartReply
+    ensures { λ r. ⌜ r ≡ startRead s x ⌝ }
 {
-    let StartRead::Read(x) = read else {
-        return 1;
-    };
-    if c.ok {
-        let state = c.state;
-        return start_refusal(state, x);
+    let k = start_refusal(s, x);
+    if k != 0 {
+        return refuse_start(k);
     }
-    1
-}
-
-// The own part that the start record names.
-fn own_named(read: StartRead) -> Own
-    ensures { λ r. ⌜ r ≡ ownNamed read ⌝ }
-{
-    let StartRead::Read(x) = read else {
-        return own_afresh(0, 0);
-    };
-    own_afresh(x.seat, x.life)
+    let own = own_afresh(x.seat, x.life);
+    StartReply {
+        node: Node { state: s, own },
+        answer: StartAnswer::Started,
+    }
 }
 
 // A well-formed announcement with a well-formed sheet.
@@ -192,17 +183,14 @@ impl Node {
         ensures { λ r. ⌜ r ≡ startOf (now (checkpoint .entry)) (now (start .entry)) ⌝ }
     {
         let read = read_start(start);
-        let c = read_checkpoint(checkpoint);
-        let number = records_refusal(c, read);
-        if number != 0 {
-            return refuse_start(number);
+        let StartRead::Read(x) = read else {
+            return refuse_start(1);
+        };
+        if is_checkpoint(checkpoint) {
+            let state = state_in(checkpoint);
+            return start_read(state, x);
         }
-        let state = c.state;
-        let own = own_named(read);
-        StartReply {
-            node: Node { state, own },
-            answer: StartAnswer::Started,
-        }
+        refuse_start(1)
     }
 
     // Performs the announcement where the sheet shows a quorum, else votes for it.

@@ -72,19 +72,19 @@ pub fn add_proposal(rows: [Proposal; PROPOSAL_ROWS], x: Proposal) -> [Proposal; 
     out
 }
 
-// Whether a proposal was announced in this cycle.
+// Whether a proposal was announced in this cycle. The condition ends the loop, so that the compiler leaves it a loop: unrolled with exits,
+// it has every copy of the state in deliver made row by row.
 pub fn has_proposal(rows: [Proposal; PROPOSAL_ROWS], c: Cycle) -> bool
     ensures { λ r. ⌜ r ≡ hasProposal c rows ⌝ }
 {
+    let mut found = false;
     let mut i: usize = 0;
-    while i < PROPOSAL_ROWS {
+    while (i < PROPOSAL_ROWS) & !found {
         let row = rows[i];
-        if is_of_cycle(row, c) {
-            return true;
-        }
+        found = is_of_cycle(row, c);
         i = i + 1;
     }
-    false
+    found
 }
 
 // The table without the proposal of this cycle.

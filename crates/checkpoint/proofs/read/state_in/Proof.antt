@@ -18,18 +18,18 @@ logins-at-requires c κs = search needs
 
 returns : tie.Need-returns
 returns c =
-    let proposals = c .before in
-    let seats = proposals .before in
+    let seats = c .before in
     let head = seats .before .before .before .before in
+    let logins = head .before in
     rw (
-      decoded-at (now (head .before .before .args .b)),
+      decoded-at (now (logins .before .before .args .b)),
       head .head-in .ensures,
       ← seats .seats-at .ensures,
-      ← proposals .proposals-at .ensures,
-      ← c .logins-at .ensures,
+      ← c .proposals-at .ensures,
+      ← logins .logins-at .ensures,
     )
 
 pub state-in-spec : {M : Type 1} → statement M
 state-in-spec =
     tie.close
-    (tie.spec head-in-requires seats-at-requires proposals-at-requires logins-at-requires returns)
+    (tie.spec logins-at-requires head-in-requires seats-at-requires proposals-at-requires returns)

@@ -1,6 +1,9 @@
-use borrow.Author.Tests.{eq-eqb, ne-eqb}
+use mathlib.Core.Path.{sym, _∙_}
+use native.Mathlib.Omega.{arith}
+use denote.Ref.{now}
+use Rattle.checkpoint.specs.Checkpoint.{readCheckpoint}
+use Rattle.checkpoint.proofs.Fields.{accepted-size}
 use Rattle.node.specs.Start.{startOf}
-use Rattle.node.proofs.Start.{by-number}
 use borrow.Author.Needs.{needs}
 use Rattle.node.proofs.Node.start.Statement.{statement}
 use Rattle.node.proofs.Node.start.Tie as tie
@@ -8,56 +11,75 @@ use Rattle.node.proofs.Node.start.Tie as tie
 read-start-requires : tie.Need-read-start-requires
 read-start-requires c κs = search needs
 
-read-checkpoint-requires : tie.Need-read-checkpoint-requires
-read-checkpoint-requires c κs = search needs
+enum-known-read : tie.Need-enum-known-read
+enum-known-read c = search needs
 
-records-refusal-requires : tie.Need-records-refusal-requires
-records-refusal-requires c κs = search needs
+enum-told : tie.Need-enum-told
+enum-told c = search needs
 
 refuse-start-requires : tie.Need-refuse-start-requires
 refuse-start-requires c κs = search needs
 
 returns : tie.Need-returns
 unfolding startOf
-returns c =
-    let refusal = c .before .before in
-    let checkpoint = refusal .before in
-    let refused = ne-eqb (refusal .records-refusal .result) 0 (c .before .if1 .taken) in
-    rw (
-      ← checkpoint .before .read-start .ensures,
-      ← checkpoint .read-checkpoint .ensures,
-      by-number (checkpoint .read-checkpoint .result) (checkpoint .before .read-start .result),
-      ← refusal .records-refusal .ensures,
-      refused,
-    )
-    (c .refuse-start .ensures)
+returns c = rw (← c .before .before .before .read-start .ensures, c .before .enum-told .given .1) (c .refuse-start .ensures)
 
-own-named-requires : tie.Need-own-named-requires
-own-named-requires c κs = search needs
+is-checkpoint-requires : tie.Need-is-checkpoint-requires
+is-checkpoint-requires c κs = search needs
+
+state-in-requires : tie.Need-state-in-requires
+state-in-requires c κs =
+    let tested = c .before in
+    let a = tested .before .before .before .before .before .before .before .args in
+    omega (arith, accepted-size (now (a .checkpoint)) (sym (tested .is-checkpoint .ensures) ∙ c .if1 .taken))
+
+start-read-requires : tie.Need-start-read-requires
+start-read-requires c κs = search needs
 
 returns-2 : tie.Need-returns-2
-unfolding startOf
+unfolding startOf readCheckpoint
 returns-2 c =
     let accepted = c .before .before in
-    let refusal = accepted .before in
-    let checkpoint = refusal .before in
+    let tested = accepted .before in
+    let told = tested .before .before in
     rw (
-      ← checkpoint .before .read-start .ensures,
-      ← checkpoint .read-checkpoint .ensures,
-      by-number (checkpoint .read-checkpoint .result) (checkpoint .before .read-start .result),
-      ← refusal .records-refusal .ensures,
-      eq-eqb (refusal .records-refusal .result) 0 (accepted .if1 .left),
-      ← c .own-named .ensures,
+      ← told .before .before .read-start .ensures,
+      told .read .given .1,
+      ← tested .is-checkpoint .ensures,
+      accepted .if1 .taken,
+      ← c .before .state-in .ensures,
     )
+    (c .start-read .ensures)
+
+refuse-start-requires-2 : tie.Need-refuse-start-requires-2
+refuse-start-requires-2 c κs = search needs
+
+returns-3 : tie.Need-returns-3
+unfolding startOf readCheckpoint
+returns-3 c =
+    let refused = c .before in
+    let tested = refused .before in
+    let told = tested .before .before in
+    rw (
+      ← told .before .before .read-start .ensures,
+      told .read .given .1,
+      ← tested .is-checkpoint .ensures,
+      refused .if1 .left,
+    )
+    (c .refuse-start2 .ensures)
 
 pub start-spec : {M : Type 1} → statement M
 start-spec =
     tie.close
     (tie.spec
     read-start-requires
-    read-checkpoint-requires
-    records-refusal-requires
+    enum-known-read
+    enum-told
     refuse-start-requires
     returns
-    own-named-requires
-    returns-2)
+    is-checkpoint-requires
+    state-in-requires
+    start-read-requires
+    returns-2
+    refuse-start-requires-2
+    returns-3)

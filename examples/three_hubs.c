@@ -1,7 +1,9 @@
-/* How firmware uses the node: three hubs are commissioned, grant a login by vote, answer queries; one is lost and comes back from a
- * checkpoint, under a new life, which votes once the park has voted a rejoin.
+/* How firmware uses the node: three hubs are commissioned, grant a login by vote, answer queries
+ * and end the login again; one hub is lost and comes back from a checkpoint, under a new life, which
+ * votes once the park has voted a rejoin.
  *
- * The radio and the seal module are played by this program: what a hub votes for is put on the next sheet as a row.
+ * The radio and the seal module are played by this program: what a hub votes for is put on the next
+ * sheet as a row.
  */
 #include "access_node.h"
 
@@ -9,9 +11,9 @@
 #include <stdlib.h>
 #include <string.h>
 
-enum { HUBS = 3, GRANT = 8, REJOIN = 7, RIGHT = 0, LOGIN = 501 };
+enum { HUBS = 3, RIGHT = 0, LOGIN = 501, PRESENT = 2 };
 
-/* What a hub keeps from call to call. Two buffers, since the output slice must not overlap the image that is handed in. */
+/* What a hub keeps from call to call. Two buffers, since no call works in place. */
 struct hub {
     uint8_t image[ACCESS_NODE_IMAGE_SIZE];
     uint8_t next[ACCESS_NODE_IMAGE_SIZE];
@@ -27,100 +29,122 @@ static uint8_t *put(uint8_t *at, uint32_t value, int size) {
 }
 
 /* The length field, which counts what follows it, and the kind. */
-static uint8_t *put_head(uint8_t *record, size_t size, uint32_t kind) { return put(put(record, (uint32_t)size - 2, 2), kind, 2); }
+static uint8_t *put_head(uint8_t *record, size_t size, uint32_t kind) {
+    return put(put(record, (uint32_t)size - 2, 2), kind, 2);
+}
 
 /* Prints what happened, and stops where the node answered otherwise than it should. */
-static void step(const char *what, uint32_t number, uint32_t wanted) {
-    printf("%-52s %u\n", what, number);
-    if (number != wanted) {
-        printf("%u was expected\n", wanted);
+static void step(const char *what, uint32_t answer, uint32_t wanted) {
+    printf("%-56s %3u\n", what, (unsigned)answer);
+    if (answer != wanted) {
+        printf("%u was expected\n", (unsigned)wanted);
         exit(1);
     }
 }
 
-/* The image that a call wrote is the one to hand to the next call. */
-static uint32_t keep(struct hub *hub, uint32_t number) {
-    if (number == 0 || number == ACCESS_NODE_VOTED || (number >= 19 && number <= 21))
+/* The image that a call wrote is the one to hand to the next call. A vault stores it here, before
+ * the vote is sent or the door is opened. */
+static uint32_t keep(struct hub *hub, uint32_t returned) {
+    if (ACCESS_NODE_WRITES_IMAGE(returned))
         memcpy(hub->image, hub->next, sizeof hub->image);
-    return number;
+    return ACCESS_NODE_ANSWER(returned);
 }
 
 static uint32_t start_hub(int seat, uint32_t life, const uint8_t *checkpoint) {
     uint8_t start[ACCESS_NODE_START_SIZE];
-    put(put(put_head(start, sizeof start, 19), (uint32_t)seat, 1), life, 4);
+    put(put(put_head(start, sizeof start, ACCESS_NODE_KIND_START), (uint32_t)seat, 1), life, 4);
     struct hub *hub = &hubs[seat];
-    return keep(hub, node_start(checkpoint, ACCESS_NODE_CHECKPOINT_SIZE, start, sizeof start, hub->next, sizeof hub->next));
+    return keep(hub, node_start(checkpoint, ACCESS_NODE_CHECKPOINT_SIZE, start, sizeof start,
+                                hub->next, sizeof hub->next));
 }
 
-/* Delivers an announcement with a sheet that has trustee 0 of level 1, and a row at life 1 for each of the first `rows` seats. */
+/* Delivers an announcement with a sheet that has trustee 0 of level 1, and a row at life 1 for each
+ * of the first `rows` seats. */
 static uint32_t deliver(int seat, const uint8_t *announcement, int rows) {
     uint8_t sheet[ACCESS_NODE_SHEET_SIZE(HUBS)];
     size_t size = (size_t)ACCESS_NODE_SHEET_SIZE(rows);
-    uint8_t *at = put(put(put(put_head(sheet, size, 18), 1, 1), 0, 1), (uint32_t)rows, 1);
+    uint8_t *at = put_head(sheet, size, ACCESS_NODE_KIND_SHEET);
+    at = put(put(put(at, 1, 1), 0, 1), (uint32_t)rows, 1);
     for (int row = 0; row < rows; row++)
         at = put(put(at, (uint32_t)row, 1), 1, 4);
     struct hub *hub = &hubs[seat];
-    return keep(hub, node_deliver(hub->image, sizeof hub->image, announcement, ACCESS_NODE_ANNOUNCEMENT_SIZE, sheet, size, hub->next,
-                                  sizeof hub->next));
+    return keep(hub, node_deliver(hub->image, sizeof hub->image,
+                                  announcement, ACCESS_NODE_ANNOUNCEMENT_SIZE, sheet, size,
+                                  hub->next, sizeof hub->next));
 }
 
 static uint32_t ask(int seat, uint32_t day) {
     uint8_t query[ACCESS_NODE_QUERY_SIZE];
-    put(put(put(put_head(query, sizeof query, 20), LOGIN, 4), day, 4), RIGHT, 1);
+    uint8_t *at = put_head(query, sizeof query, ACCESS_NODE_KIND_QUERY);
+    put(put(put(at, LOGIN, 4), day, 4), RIGHT, 1);
     struct hub *hub = &hubs[seat];
-    return keep(hub, node_query(hub->image, sizeof hub->image, query, sizeof query, hub->next, sizeof hub->next));
+    return keep(hub, node_query(hub->image, sizeof hub->image, query, sizeof query,
+                                hub->next, sizeof hub->next));
 }
 
-/* An announcement with 12 argument bytes, unused ones zero. */
+/* An announcement with 12 argument bytes, unused ones zero. Returns the place of the arguments. */
 static uint8_t *announce(uint8_t *record, uint32_t kind, uint32_t cycle, uint32_t day) {
     memset(record, 0, ACCESS_NODE_ANNOUNCEMENT_SIZE);
     return put(put(put_head(record, ACCESS_NODE_ANNOUNCEMENT_SIZE, kind), cycle, 4), day, 4);
 }
 
-static void announce_grant(uint8_t *record, uint32_t cycle, uint32_t day, uint32_t end) {
-    put(put(put(announce(record, GRANT, cycle, day), LOGIN, 4), end, 4), 1u << RIGHT, 2);
-}
-
-/* The park's first checkpoint: cycle 1, day 100, one trustee per level, m 0, k 2, S 30, three present seats at life 1, empty lists. */
+/* The park's first checkpoint: cycle 1, day 100, one trustee per level, m 0, k 2, S 30, three
+ * present seats at life 1, empty lists. */
 static void first_checkpoint(uint8_t *checkpoint) {
     memset(checkpoint, 0, ACCESS_NODE_CHECKPOINT_SIZE);
-    uint8_t *at = put(put(put_head(checkpoint, ACCESS_NODE_CHECKPOINT_SIZE, 16), 1, 4), 100, 4);
+    uint8_t *at = put_head(checkpoint, ACCESS_NODE_CHECKPOINT_SIZE, ACCESS_NODE_KIND_CHECKPOINT);
+    at = put(put(at, 1, 4), 100, 4);
     at = put(put(put(put(put(at, 1, 1), 1, 1), 0, 1), 2, 1), 30, 2);
     for (int seat = 0; seat < HUBS; seat++)
-        at = put(put(at, 2, 1), 1, 4);
+        at = put(put(at, PRESENT, 1), 1, 4);
 }
 
 static void grant_by_vote(void) {
     uint8_t grant[ACCESS_NODE_ANNOUNCEMENT_SIZE];
-    announce_grant(grant, 1, 101, 120);
+    uint8_t *at = announce(grant, ACCESS_NODE_KIND_GRANT, 1, 101);
+    put(put(put(at, LOGIN, 4), 400, 4), 1u << RIGHT, 2);
     for (int seat = 0; seat < HUBS; seat++)
         step("each hub votes for the grant", deliver(seat, grant, 0), ACCESS_NODE_VOTED);
-    step("two votes are a quorum of three: hub 0 performs", deliver(0, grant, 2), 0);
-    step("hub 1 performs", deliver(1, grant, 2), 0);
-    step("hub 0 answers open", ask(0, 110), 0);
-    step("hub 2 has not heard: login not listed", ask(2, 110), 19);
+    step("two votes are a quorum of three: hub 0 performs", deliver(0, grant, 2), ACCESS_NODE_OK);
+    step("hub 1 performs", deliver(1, grant, 2), ACCESS_NODE_OK);
+    step("hub 0 answers open", ask(0, 110), ACCESS_NODE_OK);
+    step("hub 2 has not heard of it", ask(2, 110), ACCESS_NODE_NOT_LISTED);
 }
 
 static void lose_and_restart(void) {
-    uint8_t checkpoint[ACCESS_NODE_CHECKPOINT_SIZE], grant[ACCESS_NODE_ANNOUNCEMENT_SIZE], rejoin[ACCESS_NODE_ANNOUNCEMENT_SIZE];
+    uint8_t checkpoint[ACCESS_NODE_CHECKPOINT_SIZE];
     step("hub 2 is lost; hub 0 gives its checkpoint",
-         node_checkpoint(hubs[0].image, sizeof hubs[0].image, checkpoint, sizeof checkpoint), 0);
-    step("hub 2 starts from it with a new vault, life 2", start_hub(2, 2, checkpoint), 0);
-    step("it answers from the park's list", ask(2, 110), 0);
-    announce_grant(grant, 3, 103, 130);
-    put(put(announce(rejoin, REJOIN, 2, 102), 2, 1), 2, 4);
-    step("it can't vote before a rejoin names its life", deliver(2, rejoin, 0), 15);
+         node_checkpoint(hubs[0].image, sizeof hubs[0].image, checkpoint, sizeof checkpoint),
+         ACCESS_NODE_OK);
+    step("hub 2 starts from it with a new vault, life 2", start_hub(2, 2, checkpoint),
+         ACCESS_NODE_OK);
+    step("it answers from the park's list", ask(2, 110), ACCESS_NODE_OK);
+    uint8_t rejoin[ACCESS_NODE_ANNOUNCEMENT_SIZE];
+    put(put(announce(rejoin, ACCESS_NODE_KIND_REJOIN, 2, 102), 2, 1), 2, 4);
+    step("it can't vote before a rejoin names its life", deliver(2, rejoin, 0),
+         ACCESS_NODE_CANNOT_VOTE);
     for (int seat = 0; seat < HUBS; seat++)
-        step("each hub performs the rejoin that 0 and 1 voted for", deliver(seat, rejoin, 2), 0);
-    step("now it votes", deliver(2, grant, 0), ACCESS_NODE_VOTED);
+        step("each hub performs the rejoin that 0 and 1 voted for", deliver(seat, rejoin, 2),
+             ACCESS_NODE_OK);
+}
+
+static void end_by_vote(void) {
+    uint8_t end[ACCESS_NODE_ANNOUNCEMENT_SIZE];
+    put(announce(end, ACCESS_NODE_KIND_END, 3, 103), LOGIN, 4);
+    step("hub 2 votes again, for the end of the login", deliver(2, end, 0), ACCESS_NODE_VOTED);
+    step("hub 0 performs the end", deliver(0, end, 2), ACCESS_NODE_OK);
+    step("it no longer lists the login", ask(0, 110), ACCESS_NODE_NOT_LISTED);
+    step("hub 1 has not heard of the end and still opens", ask(1, 132), ACCESS_NODE_OK);
+    step("but not for a day beyond the silence limit", ask(1, 134), ACCESS_NODE_SILENT);
 }
 
 int main(void) {
     uint8_t checkpoint[ACCESS_NODE_CHECKPOINT_SIZE];
     first_checkpoint(checkpoint);
     for (int seat = 0; seat < HUBS; seat++)
-        step("a hub is commissioned", start_hub(seat, 1, checkpoint), 0);
+        step("a hub is commissioned", start_hub(seat, 1, checkpoint), ACCESS_NODE_OK);
     grant_by_vote();
     lose_and_restart();
+    end_by_vote();
     return 0;
 }

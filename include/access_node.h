@@ -1,28 +1,57 @@
-/* The access node's four calls. Records and numbers are those of document 01.
+/* The access node: four calls on byte slices and numbers.
  *
- * Slices: each length is that of the slice before it, in bytes. A slice is a non-null pointer, also where its length is 0, of any
- * alignment. The slices of one call do not overlap, so the output slice is another buffer than the image that is handed in. The caller owns
- * every slice; a call changes no input slice, keeps no pointer and allocates nothing. The library has no variables of its own, so calls may
- * run at the same time. Each call returns for every input.
+ * docs/FORMATS.md has the records byte by byte and every refusal with what helps;
+ * docs/OPERATORS.md what the firmware must do and must never do.
  *
- * Image: what the node holds from one call to the next. Hand on the one that was written last; where a call writes none, the one that was
- * handed in stays the node's.
+ * Slices. Each length is that of the slice before it, in bytes. A slice is a non-null pointer,
+ * also where its length is 0, of any alignment. The caller owns every slice; a call changes no
+ * input slice, keeps no pointer and allocates nothing.
  *
- * Return value: 0 where the call started, performed, answered open or gave a checkpoint, ACCESS_NODE_VOTED where it voted, else the number
- * of the rule that refused it ("The table of no"). The rules are tried in this order: 1 (an input slice other than the sheet is malformed),
- * 2 (the sheet is malformed), 22 (the output slice is too short, also where nothing would be written), then the others from the lowest up.
+ * Not in place. The slices of one call do not overlap: the output slice is another buffer than the
+ * image that is handed in. A call that breaks this may seem to work with one build of the library
+ * and fail with the next.
  *
- * Output: a call writes a whole image or checkpoint to the front of its output slice, or leaves the slice as it was; the numbers with which
- * it writes stand at each call. A longer slice keeps its tail.
+ * Image. What the node holds from one call to the next. Where a call writes an image
+ * (ACCESS_NODE_WRITES_IMAGE) it is the node's from then on, else the one that was handed in stays
+ * the node's. The answers 19, 20 and 21 write one too: it counts the miss, and a firmware that
+ * drops it takes the lock (17) off the node.
  *
- * Stack: ACCESS_NODE_STACK_* is the most that a call was measured to use on x86-64 (tests/stack_use.c), in bytes, rounded up with at least
- * 512 to spare. On another target it is to be measured again. The library calls memcpy and no other function.
+ * Loss of power. Store the image that a call wrote, then switch to it, in one step that a loss of
+ * power cannot cut in half; only then act on the answer. Above all a vote is sent only after the
+ * image that holds it is stored: a node that forgets its vote can vote again in the same cycle.
+ *
+ * Return value. The low 8 bits are the answer: ACCESS_NODE_OK, ACCESS_NODE_VOTED or the number of
+ * the refusal. The bits above are a count; the calls of this edition give none, so they are 0. The
+ * rules are tried in this order: 1, 2, 22, then the others from the lowest number up.
+ *
+ * Output. A call writes a whole image or checkpoint to the front of its output slice, or leaves the
+ * slice as it was. A longer slice keeps its tail.
+ *
+ * Threads. The library has no variables of its own: calls on different slices may run at once.
+ *
+ * Work. Each call returns for every input. No loop runs over more than a checkpoint's 1,108 bytes,
+ * 64 rows, 32 seats or 16 proposals; docs/PERFORMANCE.md has the instructions of each call.
+ *
+ * Stack. ACCESS_NODE_STACK_* is the most that a call was measured to use (tests/stack_use.c), in
+ * bytes, rounded up with at least 512 to spare.
+ *
+ * Target. libnode_c.a is for x86-64 (System V ABI, ELF) and for nothing else. It uses SSE2
+ * registers and the red zone below the stack pointer, so a call needs a stack of its own that is
+ * aligned as the ABI says, and an interrupt handler saves those registers. It calls memcpy and no
+ * other function, so it needs no C library beyond that one, and has no unwind tables.
  */
 #ifndef ACCESS_NODE_H
 #define ACCESS_NODE_H
 
 #include <stddef.h>
 #include <stdint.h>
+
+#ifdef __cplusplus
+extern "C" {
+#endif
+
+/* Which records and rules this header is for. Images of two editions are not to be mixed. */
+#define ACCESS_NODE_EDITION 1
 
 /* Sizes of whole records. A sheet has 0 to ACCESS_NODE_MOST_ROWS rows. */
 #define ACCESS_NODE_CHECKPOINT_SIZE 1108
@@ -33,29 +62,88 @@
 #define ACCESS_NODE_MOST_ROWS 64
 #define ACCESS_NODE_QUERY_SIZE 13
 
-#define ACCESS_NODE_VOTED 128
+/* The kinds of records. Those of announcements are the nine actions. */
+#define ACCESS_NODE_KIND_PROPOSE 1
+#define ACCESS_NODE_KIND_CANCEL 2
+#define ACCESS_NODE_KIND_PRESENTS 3
+#define ACCESS_NODE_KIND_CERTIFY 4
+#define ACCESS_NODE_KIND_MINIMA 5
+#define ACCESS_NODE_KIND_REMOVE 6
+#define ACCESS_NODE_KIND_REJOIN 7
+#define ACCESS_NODE_KIND_GRANT 8
+#define ACCESS_NODE_KIND_END 9
+#define ACCESS_NODE_KIND_CHECKPOINT 16
+#define ACCESS_NODE_KIND_SHEET 18
+#define ACCESS_NODE_KIND_START 19
+#define ACCESS_NODE_KIND_QUERY 20
+
+/* Answers. */
+#define ACCESS_NODE_OK 0             /* started, performed, open, or the checkpoint is given */
+#define ACCESS_NODE_MALFORMED 1      /* an input slice other than the sheet is malformed */
+#define ACCESS_NODE_BAD_SHEET 2      /* the sheet is malformed */
+#define ACCESS_NODE_HALTED 3         /* the node's own seat is retired */
+#define ACCESS_NODE_CYCLE_PASSED 4   /* announced for a cycle before the node's */
+#define ACCESS_NODE_CYCLE_AHEAD 5    /* announced for a cycle after the node's */
+#define ACCESS_NODE_LAST_CYCLE 6     /* the node is in cycle 4294967295 */
+#define ACCESS_NODE_DAY_BACK 7       /* announced for a day before the agreed day */
+#define ACCESS_NODE_NOT_SIGNED 8     /* too few trustees of the level that the kind needs */
+#define ACCESS_NODE_SEAT_UNFIT 9     /* the seat's standing does not fit the kind or the start */
+#define ACCESS_NODE_NOT_NOTICED 10   /* no equal proposal announced at least 7 days before */
+#define ACCESS_NODE_TABLE_FULL 11    /* no row left for a proposal or a login */
+#define ACCESS_NODE_QUORUM_LOST 12   /* fewer seats would be present than the quorum needs */
+#define ACCESS_NODE_NOT_FOUND 13     /* no such proposal to cancel, no such login to end */
+#define ACCESS_NODE_TOO_LOW 14       /* a life not above the listed one, or a grant that is over */
+#define ACCESS_NODE_CANNOT_VOTE 15   /* no quorum, and the own seat is not present at this life */
+#define ACCESS_NODE_VOTED_OTHER 16   /* no quorum, and voted for other bytes in this cycle */
+#define ACCESS_NODE_LOCKED 17        /* ten bad queries in a row */
+#define ACCESS_NODE_SILENT 18        /* nothing was performed for longer than the silence limit */
+#define ACCESS_NODE_NOT_LISTED 19    /* no such login; one miss is added */
+#define ACCESS_NODE_ENDED 20         /* the login's last day is over; one miss is added */
+#define ACCESS_NODE_RIGHT_NOT_HELD 21 /* the login has no such right; one miss is added */
+#define ACCESS_NODE_NO_ROOM 22       /* the output slice is too short */
+#define ACCESS_NODE_VOTED 128        /* the node voted for the announcement */
+
+/* The two parts of what a call returned. */
+#define ACCESS_NODE_ANSWER(returned) ((uint32_t)(returned) & 255u)
+#define ACCESS_NODE_COUNT(returned) ((uint32_t)(returned) >> 8)
+
+/* Whether start, deliver or query wrote an image, of what it returned. */
+#define ACCESS_NODE_WRITES_IMAGE(returned)                                   \
+    (ACCESS_NODE_ANSWER(returned) == ACCESS_NODE_OK ||                       \
+     ACCESS_NODE_ANSWER(returned) == ACCESS_NODE_VOTED ||                    \
+     (ACCESS_NODE_ANSWER(returned) >= ACCESS_NODE_NOT_LISTED &&              \
+      ACCESS_NODE_ANSWER(returned) <= ACCESS_NODE_RIGHT_NOT_HELD))
 
 /* Starts a node from a checkpoint, at the seat and under the life of a start record.
  * Refusals: 1, 22, 9, 14. Writes the image with 0. A refused start makes no node. */
 #define ACCESS_NODE_STACK_START 4096
-uint32_t node_start(const uint8_t *checkpoint, size_t checkpoint_length, const uint8_t *start, size_t start_length, uint8_t *image_out,
-                    size_t image_out_length);
+uint32_t node_start(const uint8_t *checkpoint, size_t checkpoint_length,
+                    const uint8_t *start, size_t start_length,
+                    uint8_t *image_out, size_t image_out_length);
 
-/* Delivers an announcement with its sheet: performs it where the sheet shows a quorum, else votes for it.
+/* Delivers an announcement with its sheet: performs it where the sheet shows a quorum, else votes.
  * Refusals: 1, 2, 22, 3 to 16. Writes the image with 0 and ACCESS_NODE_VOTED. */
 #define ACCESS_NODE_STACK_DELIVER 15360
-uint32_t node_deliver(const uint8_t *image, size_t image_length, const uint8_t *announcement, size_t announcement_length,
-                      const uint8_t *sheet, size_t sheet_length, uint8_t *image_out, size_t image_out_length);
+uint32_t node_deliver(const uint8_t *image, size_t image_length,
+                      const uint8_t *announcement, size_t announcement_length,
+                      const uint8_t *sheet, size_t sheet_length,
+                      uint8_t *image_out, size_t image_out_length);
 
 /* Asks whether a login may use a right on a day.
- * Refusals: 1, 22, 3, 17 to 21. Writes the image with 0, misses set to 0, and with 19, 20 and 21, one miss added. */
+ * Refusals: 1, 22, 3, 17 to 21. Writes the image with 0, misses 0, and with 19 to 21, one more. */
 #define ACCESS_NODE_STACK_QUERY 5120
-uint32_t node_query(const uint8_t *image, size_t image_length, const uint8_t *query, size_t query_length, uint8_t *image_out,
-                    size_t image_out_length);
+uint32_t node_query(const uint8_t *image, size_t image_length,
+                    const uint8_t *query, size_t query_length,
+                    uint8_t *image_out, size_t image_out_length);
 
 /* Gives the checkpoint of the node's state.
  * Refusals: 1, 22. Writes the checkpoint with 0. */
 #define ACCESS_NODE_STACK_CHECKPOINT 4096
-uint32_t node_checkpoint(const uint8_t *image, size_t image_length, uint8_t *checkpoint_out, size_t checkpoint_out_length);
+uint32_t node_checkpoint(const uint8_t *image, size_t image_length,
+                         uint8_t *checkpoint_out, size_t checkpoint_out_length);
+
+#ifdef __cplusplus
+}
+#endif
 
 #endif

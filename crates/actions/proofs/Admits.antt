@@ -1,58 +1,43 @@
 -- What the rules ask for before an announcement is performed.
-use mathlib.Core.Path.{_≡_, refl, sym, ap, _∙_}
+use mathlib.Core.Path.{_≡_, refl}
 use mathlib.Core.Logic.{_≢_, _⊎_, inl, inr}
-use mathlib.Core.Bool.{Bool, true, false, not, and-eq-true-iff, false≢true}
-use mathlib.Core.List.{List·Memᴰ}
+use mathlib.Core.Bool.{Bool, true, false, not, and-eq-true-iff}
 use Prim.Native.Nat.{ℕ, _-_}
 use native.Mathlib.Omega.{arith}
 use lib.Dec.{eqb}
 use lib.ListN.{getD}
-use borrow.Author.Tests.{eqb-true, eqb-false, ne-eqb, leb-false, ltb-false, not-false}
-use Rattle.lists.specs.Fold.{first}
+use borrow.Author.Tests.{eqb-true, eqb-false, leb-false, ltb-false, not-false}
 use Rattle.lists.proofs.Tests.{cond-cases}
-use Rattle.lists.proofs.Firsts.{first-listed}
-use Rattle.refusals.specs.Refusals.{refuseIf, lowest, _orElse_}
+use Rattle.refusals.specs.Refusals.{refuseIf, _orElse_}
 use Rattle.refusals.proofs.Chains.{passes-rule, unrefused, by-rule, refused, lowest-one}
 use Rattle.state.specs.declared.Day.{Day}
-use Rattle.state.specs.declared.Subject.{Subject}
-use Rattle.state.specs.declared.Proposal.{Proposal}
 use Rattle.state.specs.declared.State.{State}
 use Rattle.state.specs.Time.{isBeforeDay}
 use Rattle.state.specs.Seats.{free, seatAt, isActive}
 use Rattle.state.specs.Limits.{proposalRows, loginRows}
 use Rattle.state.specs.Rows.{noProposal, isProposal, noLogin, isLogin}
-use Rattle.tables.specs.Proposals.{isMature, matureProposal, hasProposal, proposalsFull}
+use Rattle.tables.specs.Proposals.{hasProposal, proposalsFull}
 use Rattle.tables.specs.Logins.{isListed, lacksRow}
-use Rattle.tables.proofs.TableFacts.{mature-is-notice}
 use Rattle.records.specs.declared.Action.{Action}
 use Rattle.records.specs.declared.Action.the-variants.{Propose, Cancel, Presents, Certify, Minima, Remove, Rejoin, Grant, End}
 use Rattle.records.specs.Actions.{kindOf, levelOf, subjectOf}
 use Rattle.rules.specs.Rules.{isSigned, lacksNotice, noticeRefusal, quorumRefusal, checkRefusal, actionRefusal}
 use Rattle.rules.proofs.Passed.{quorum-left, action-passes}
-use Rattle.actions.specs.Claims.{AlwaysSigned, Notice, AlwaysNotified, Found, AlwaysFound, FullOnlyWhenFull}
+use Rattle.rules.proofs.Notices.{has-notice}
+use Rattle.actions.specs.Claims.{AlwaysSigned, AlwaysNotified, Found, AlwaysFound, FullOnlyWhenFull}
 
 -- Rule 8: a majority signed.
 pub always-signed : AlwaysSigned
 always-signed s a mask1 mask2 p = action-passes s (a .day) mask1 mask2 (a .action) (p .action) .signed
 
 -- Rule 10: a mature proposal is listed.
-noticed : (s : State) (d : Day) (x : Subject) → x .kind ≢ 0 → noticeRefusal (s .proposals) d x ≡ 0 → Notice s d x
-unfolding noticeRefusal matureProposal
-noticed s d x n e = by (first-listed (isMature x d) noProposal (s .proposals))
-  where
-    r : Proposal
-    r = first (isMature x d) noProposal (s .proposals)
-
-    used : isProposal r ≡ true
-    used = not-false _ (rw (ne-eqb (x .kind) 0 n) at (unrefused (lacksNotice (s .proposals) d x) 10 refl e))
-
-    by : (r ≡ noProposal) ⊎ (List·Memᴰ r (s .proposals) × (isMature x d r ≡ true)) → Notice s d x
-    by (inl f) = absurd (false≢true (ap isProposal (sym f) ∙ used))
-    by (inr f) = record { proposal = r; listed = f .0; notice = mature-is-notice x d r (f .1) }
-
 pub always-notified : AlwaysNotified
-always-notified s a mask1 mask2 p n = noticed s (a .day) (subjectOf (a .action)) n
-    (action-passes s (a .day) mask1 mask2 (a .action) (p .action) .notified)
+unfolding noticeRefusal
+always-notified s a mask1 mask2 p n =
+    let passed = action-passes s (a .day) mask1 mask2 (a .action) (p .action) .notified in
+    let x = subjectOf (a .action) in
+    let h = has-notice (s .proposals) (a .day) x n (unrefused (lacksNotice (s .proposals) (a .day) x) 10 refl passed) in
+    record { proposal = h .proposal; listed = h .listed; notice = h .notice }
 
 found : (s : State) (d : Day) (x : Action) → checkRefusal s d x ≡ 0 → Found s d x
 unfolding checkRefusal

@@ -9,7 +9,7 @@ use borrow.Author.Tests.{eqb-true, lt-ltb}
 use Rattle.lists.proofs.Every.{set-keeps}
 use Rattle.state.specs.declared.Cycle.{Cycle}
 use Rattle.state.specs.declared.Seat.{Seat}
-use Rattle.state.specs.Time.{cycle, nextCycle}
+use Rattle.state.specs.Time.{cycle, lastCycle, nextCycle}
 use Rattle.state.specs.Seats.{free, freeSeat, seatAt, setSeat}
 use Rattle.tables.specs.Logins.{isNamed, isListed}
 use Rattle.tables.proofs.LoginTable.{unlisted-grant, unlisted-end, unlisted-ended}
@@ -22,8 +22,8 @@ use Rattle.actions.proofs.Sound.{sound-of, sound-to, sound-later}
 use Rattle.actions.proofs.Kept.{act-kept}
 
 -- A cycle that is not the last has one after it.
-next-cycle : (c : Cycle) → c .0 < 2 ^ 32 → c .0 ≢ 4294967295 → nextCycle c ≡ cycle (c .0 + 1)
-next-cycle c h n = rw (lt-ltb (c .0) 4294967295 (omega arith))
+next-cycle : (c : Cycle) → c .0 < 2 ^ 32 → c .0 ≢ lastCycle .0 → nextCycle c ≡ cycle (c .0 + 1)
+next-cycle c h n = rw (lt-ltb (c .0) (lastCycle .0) (omega arith))
 
 -- Where no rule applies, the state that an announcement leaves is well formed.
 pub keeps-well-formed : KeepsWellFormed

@@ -1,6 +1,5 @@
 -- The states that a park reaches: the first one, and what a performed announcement makes of one. Where no two announcements performed from one state
--- differ,
--- there is one state to a cycle, days never fall, and an ended login stays out until it is granted again.
+-- differ, there is one state to a cycle, days never fall, and an ended login stays out until it is granted again.
 use mathlib.Core.Path.{_≡_, refl, sym, ap, _∙_, subst}
 use mathlib.Core.Bool.{Bool, true, false, true≢false}
 use Prim.Native.Nat.{ℕ, suc, _≤_, _<_}

@@ -1,6 +1,5 @@
 -- Demand 3, "a single claim about a list, and not one for each call". `moments calls` are the calls of the list, each with the cluster that it finds;
--- what a
--- host holds "after some call of the list" is `nodeAt (after t)` for a moment t of it.
+-- what a host holds "after some call of the list" is `nodeAt (after t)` for a moment t of it.
 use mathlib.Core.Path.{_≡_}
 use mathlib.Core.Logic.{_≢_, _⊎_}
 use mathlib.Core.Bool.{true}
@@ -68,8 +67,7 @@ LawfulStarts first calls = (t : Moment) → t ∈ calls → (h : Host) (cb rb ou
     → (cb ≡ first) ⊎ List·Memᴰ cb (t .before .given)
 
 -- "Double-voter bound: for any two deliver calls of the list that are performed, from equal synchronised states and with announcements that differ,
--- at most 2m
--- seats count on both sheets. The margin in force m, standings and lives are those of that state."
+-- at most 2m seats count on both sheets. The margin in force m, standings and lives are those of that state."
 abbrev pub EquivocationBound : History → Type 0
 EquivocationBound calls = (t u : Moment) → t ∈ calls → u ∈ calls
     → (s : State) (ab bb : List ℕ) (a b : Announcement) (asb bsb : List ℕ) → Performed t s ab a asb → Performed u s bb b bsb → ab ≢ bb
@@ -105,12 +103,10 @@ pub record GrantedAgain (calls : History) (login : ℕ) (e c : Cycle) : Type 0 w
   pub above : CycleBefore e (state .cycle)
   pub below : CycleBefore (state .cycle) c
 
--- A given day is above D+S where it comes more than S days after D: "the sum never cut to 32 bits".
--- "Ended: a deliver call of the list performs kind 9 for the login, in cycle e with announced day D. A query for it, before or after that call in the
--- list, on
--- a given day above D+S (S of the node asked, the sum never cut to 32 bits) is answered open only if a deliver call of the list performs a grant of
--- that login
--- in a cycle above e and below the cycle of the node asked."
+-- "Ended, under that bound: a deliver call of the list performs kind 9 for the login, in cycle e with announced day D. A query for it, before or
+-- after that call in the list, on a given day above D+S (S of the node asked, the sum never cut to 32 bits) is answered open only if a deliver call
+-- of the list performs a grant of that login in a cycle above e and below the cycle of the node asked." A given day is above D+S where it comes more
+-- than S days after D.
 abbrev pub Ended : History → Type 0
 Ended calls = (t u : Moment) → t ∈ calls → u ∈ calls
     → (s : State) (ab : List ℕ) (a : Announcement) (sb : List ℕ) (login : ℕ) → Performed t s ab a sb → a .action ≡ End login

@@ -1,9 +1,9 @@
 -- A vote stays with its host until the cycle is over or the host is started again.
 use mathlib.Core.Path.{_≡_, refl, sym, ap, _∙_, subst}
 use mathlib.Core.Logic.{_⊎_, inl, inr}
-use mathlib.Core.Bool.{Bool, true, false, cond, not, and-eq-true-iff, false≢true}
-use mathlib.Core.List.{List, [], _∷_, List·Memᴰ, List·Memᴰ·head, List·Memᴰ·tail}
-use mathlib.Core.Option.{Option, some, Option·some-injective}
+use mathlib.Core.Bool.{Bool, true, false, cond, not, false≢true}
+use mathlib.Core.List.{List, _∷_, List·Memᴰ, List·Memᴰ·head, List·Memᴰ·tail}
+use mathlib.Core.Option.{some, Option·some-injective}
 use Prim.Native.Nat.{ℕ, _<_}
 use native.Mathlib.Omega.{arith}
 use lib.Dec.{eqb}
@@ -25,6 +25,7 @@ use Rattle.node.specs.declared.DeliverAnswer.{DeliverAnswer}
 use Rattle.node.specs.declared.DeliverAnswer.the-variants.{Done, Voted, Refused}
 use Rattle.node.specs.Answers.{startNumber, deliverNumber}
 use Rattle.verdicts.specs.Own.{isSameBytes, votedOtherwise, canVote}
+use Rattle.node.proofs.Deliver.{bytes-same}
 use Rattle.refusals.specs.Refusals.{refuseIf, _orElse_}
 use Rattle.node.specs.Deliver as Deliver
 use Rattle.verdicts.specs.Verdicts.{deliverRefusal, showsQuorum, voteRefusal}
@@ -185,13 +186,6 @@ no-vote n ab sb o = by (readAnnouncement ab)
         at : (b : Bool) → isVoted (Deliver.withoutQuorum n ab (refuseIf (not b) 15 orElse refuseIf (votedOtherwise (n .own) ab) 16) .answer) ≡ false
         at true = rw o
         at false = refl
-
-bytes-same : (a b : List ℕ) → isSameBytes a b ≡ true → a ≡ b
-unfolding isSameBytes
-bytes-same [] [] e = refl
-bytes-same [] (y ∷ ys) e = absurd (false≢true e)
-bytes-same (x ∷ xs) [] e = absurd (false≢true e)
-bytes-same (x ∷ xs) (y ∷ ys) e = let t = and-eq-true-iff (eqb x y) (isSameBytes xs ys) .0 e in rw (eqb-true x y (t .0), bytes-same xs ys (t .1))
 
 -- so a node that votes had not voted, or for the same bytes
 same-vote : (n : Node) (ab sb : List ℕ) → deliverOf n ab sb .answer ≡ Voted → n .own .voted ≡ true → n .own .vote ≡ ab

@@ -69,8 +69,7 @@ pub record HonestVote (calls : History) (seat life cycle : ℕ) (ab : List ℕ) 
   pub steady : Steady calls seat life cycle
 
 -- But for a set of at most 2m seats, each seat that counts on the sheet of a delivery which is performed from the state s gave an honest vote under
--- its listed
--- life and in the cycle of s.
+-- its listed life and in the cycle of s.
 pub record Honest (calls : History) (s : State) : Type 0 where
   pub faulty : List ℕ
   pub few : length faulty ≤ 2 * s .minima .margin

@@ -36,9 +36,8 @@ pub data Proposed (first : State) (calls : History) (u : State) (r : Proposal) :
       → Stays calls r (perform s a) u → Proposed first calls u r
 
 -- Each performed action that has a subject (certify, minima, remove) has a proposal of that subject, listed in its state and announced at least the
--- notice
--- before, which stands in the first state or was proposed in the same chain and not cancelled and not used before; a majority of the level of its
--- kind signed it.
+-- notice before, which stands in the first state or was proposed in the same chain and not cancelled and not used before; a majority of the level of
+-- its kind signed it.
 pub record Noticed (first : State) (calls : History) (u : State) (b : Announcement) (x : Step calls u b) : Type 0 where
   pub row : Proposal
   pub listed : Listed row u

@@ -1,10 +1,9 @@
 -- In one state, given one announcement to which no number from 1 to 14 applies: every node that may vote and has not voted otherwise votes, and the
--- votes of a
--- quorum make every node of that state that isn't halted perform.
+-- votes of a quorum make every node of that state that isn't halted perform.
 use mathlib.Core.Path.{_≡_}
 use mathlib.Core.Logic.{_≢_, _⊎_}
 use mathlib.Core.Bool.{true, false}
-use mathlib.Core.List.{List, [], _∷_, List·Memᴰ, map}
+use mathlib.Core.List.{List, [], List·Memᴰ, map}
 use Prim.Native.Nat.{ℕ, _≤_}
 use lib.ListN.{length}
 use Rattle.state.specs.declared.State.{State}
@@ -24,16 +23,14 @@ use Rattle.node.specs.WellFormed.{WellFormedNode}
 use Rattle.records.specs.Sheet.{sheetOf}
 
 -- None of the numbers 1, 2 and 4 to 14 applies in the state s: the bytes ab are read as the announcement a, the sheet sb is well formed, and no later
--- rule
--- refuses. Number 3 is about the node: it is halted.
+-- rule refuses. Number 3 is about the node: it is halted.
 pub record Unrefused (s : State) (ab sb : List ℕ) (a : Announcement) : Type 0 where
   pub read : readAnnouncement ab ≡ Read a
   pub sheet : isSheet sb ≡ true
   pub admitted : Admitted s a (level1 sb) (level2 sb)
 
 -- A node whose seat is present under its listed life, and that has not voted otherwise, votes when the sheet has no rows: `votes n ab` is the answer
--- voted, and
--- the node with ab as its vote.
+-- voted, and the node with ab as its vote.
 abbrev pub Votes : Type 0
 Votes = (n : Node) (ab sb : List ℕ) (a : Announcement) → Unrefused (n .state) ab sb a → rowsOf sb ≡ []
     → MayVote n → (n .own .voted ≡ false) ⊎ (n .own .vote ≡ ab) → deliverOf n ab sb ≡ votes n ab
@@ -64,8 +61,7 @@ pub record Voter (s : State) (ab : List ℕ) (n : Node) : Type 0 where
   pub answered : deliverOf n ab sheet .answer ≡ Voted
 
 -- Both joined: as many nodes of one state as its quorum, at different seats, answer voted. The sheet of their rows, with masks under which no number
--- from 4
--- to 14 applies, makes every node of that state that isn't halted perform.
+-- from 4 to 14 applies, makes every node of that state that isn't halted perform.
 abbrev pub VotesPerform : Type 0
 VotesPerform = (s : State) (ab sb : List ℕ) (a : Announcement) → Unrefused s ab sb a
     → (voters : List Node) → ((n : Node) → List·Memᴰ n voters → Voter s ab n) → Distinct (map (λ n. n .own .seat) voters) → quorumOf s ≤ length voters

@@ -35,8 +35,7 @@ pub data Provenance (first : State) (calls : History) (login : ℕ) (u : State) 
       → Since calls login (perform r a) u → Provenance first calls login u row
 
 -- An open answer has a grant performed in the chain of that node (or a row of the first checkpoint), not ended or replaced since in that chain, with
--- that right
--- and an end day not before the given day; and the given day is at most the agreed day plus S.
+-- that right and an end day not before the given day; and the given day is at most the agreed day plus S.
 pub record OpenRow (first : State) (calls : History) (n : Node) (q : Query) : Type 0 where
   pub row : Login
   pub provenance : Provenance first calls (q .login) (n .state) row

@@ -12,8 +12,7 @@ use Rattle.agreement.specs.History.{History, Moment}
 use Rattle.agreement.specs.Claims.{_∈_, Performed, Opened, Park, EquivocationBound}
 
 -- After a remove of a seat announced on day D, performed anywhere in the list, no node of that seat answers open for a given day above D plus its
--- silence
--- limit, before or after the remove in the list, under the bound.
+-- silence limit, before or after the remove in the list, under the bound.
 abbrev pub RemovedNeverOpens : Type 0
 RemovedNeverOpens = (first : List ℕ) (calls : History) → Park first calls → EquivocationBound calls
     → (t u : Moment) → t ∈ calls → u ∈ calls

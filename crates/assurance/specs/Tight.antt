@@ -1,6 +1,5 @@
 -- The double-voter bound of demand 3 can't be loosened by one: for each margin m a computed history in which exactly 2m+1 seats count on both sheets,
--- and two
--- nodes at one cycle differ.
+-- and two nodes at one cycle differ.
 use mathlib.Core.Path.{_≡_}
 use mathlib.Core.Logic.{_≢_}
 use mathlib.Core.List.{List, [], _++_, _∷_, map}
@@ -23,8 +22,7 @@ use Rattle.agreement.specs.NotIdle.{room}
 use Rattle.records.specs.Sheet.{sheetOf}
 
 -- "Commissioned at cycle 1, day 100, one trustee per level", k=1, S=30, lists empty; here with margin m, and seats 0 to 2m present at life 1. The
--- quorum is
--- then m+1+m, which is all of them.
+-- quorum is then m+1+m, which is all of them.
 abbrev pub firstState : ℕ → State
 firstState m = record {
   cycle = cycle 1;
@@ -54,8 +52,7 @@ abbrev pub fullSheet : ℕ → List ℕ
 fullSheet m = sheetOf 1 0 (rowsBelow (2 * m + 1))
 
 -- Two hosts start from the first checkpoint, at seats 0 and 2m, and each performs another announcement in cycle 1, with that sheet: every present
--- seat is a
--- double voter.
+-- seat is a double voter.
 abbrev pub divided : ℕ → History
 divided m =
     start (byValue 0) (first m) (startSeat 0) []

@@ -1,6 +1,5 @@
 -- "Checkpoint, 1,108 bytes, length 1,106, kind 16: cycle 4, day 4, trustee counts 1+1, m 1, k 1, S 2; 32 times standing 1, life 4; proposal count 1,
--- 16
--- times cycle 4, day 4, subject kind 2, subject arguments 8; login count 1, 64 times login 4, end day 4, rights 2.": sizes, and where each part
+-- 16 times cycle 4, day 4, subject kind 2, subject arguments 8; login count 1, 64 times login 4, end day 4, rights 2.": sizes, and where each part
 -- starts.
 use Prim.Native.Nat.{ℕ, _+_, _*_}
 use Rattle.state.specs.Limits.{seatCount, proposalRows}

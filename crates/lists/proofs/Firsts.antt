@@ -45,3 +45,9 @@ first-listed {A} p d (x ∷ xs) = at (p x) refl (first-listed p d xs)
     at true e f = inr (List·Memᴰ·head refl, e)
     at false e (inl f) = inl f
     at false e (inr f) = inr (List·Memᴰ·tail (f .0), f .1)
+
+-- Where some element passes a test, the first that is found passes it.
+pub first-passes : {A : Type 0} (p : A → Bool) (d : A) {x : A} {xs : List A} → List·Memᴰ x xs → p x ≡ true → p (first p d xs) ≡ true
+unfolding first
+first-passes p d (List·Memᴰ·head e) h = rw (← e, h) h
+first-passes p d (List·Memᴰ·tail {x = y} m) h = cond-cases (λ z. p z ≡ true) (p y) (λ g. g) (λ _. first-passes p d m h)

@@ -4,6 +4,7 @@ use mathlib.Core.Logic.{_≢_}
 use mathlib.Core.Bool.{Bool, true, false, cond, and-eq-true-iff, false≢true}
 use mathlib.Core.List.{List, [], _∷_}
 use Prim.Native.Nat.{ℕ, _≤_}
+use native.Mathlib.Omega.{arith}
 use lib.Dec.{eqb}
 use borrow.Author.Tests.{eqb-true, eqb-false, eq-eqb, leb-true, le-leb, not-true}
 use Rattle.lists.proofs.Tests.{cond-cases}
@@ -46,7 +47,10 @@ can-vote n m = rw (eq-eqb _ _ (m .standing), eq-eqb _ _ (m .life))
 
 pub within-rules : (n : Node) (sb : List ℕ) (a : Announcement) → deliverRefusal (n .state) (n .own) a sb ≤ 14
 unfolding deliverRefusal
-within-rules n sb a = search (bounds, time-within, action-within) depth 9
+within-rules n sb a =
+    let time = time-within (n .state .cycle) (n .state .day) a in
+    let timely : timeRefusal (n .state .cycle) (n .state .day) a ≤ 14 = omega (arith, time) in
+    search (bounds, action-within) depth 9
 
 module _ (n : Node) (ab sb : List ℕ) where
   -- no number from 3 to 14 applies

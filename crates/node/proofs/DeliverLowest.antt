@@ -8,8 +8,7 @@ use native.Mathlib.Omega.{arith}
 use lib.Dec.{eqb, leb}
 use borrow.Author.Tests.{eqb-true, eq-eqb, ne-eqb, le-leb, lt-ltb, lt-leb}
 use Rattle.lists.proofs.Tests.{cond-cases}
-use Rattle.refusals.proofs.Chains.{not-zero, rule-within, bounds}
-use Rattle.state.specs.declared.Day.{Day}
+use Rattle.refusals.proofs.Chains.{not-zero, rule-within}
 use Rattle.state.specs.declared.Cycle.{Cycle}
 use Rattle.state.specs.declared.Seat.{Seat}
 use Rattle.state.specs.declared.State.{State}
@@ -40,14 +39,11 @@ use Rattle.node.specs.Applies.{no-10, no-11, no-12, no-13, no-14, no-15,
 use Rattle.node.proofs.DeliverApplies.{unsigned, unnoticed}
 use Rattle.refusals.proofs.UpTo.{UpTo, by-itself, in-first, in-rest, in-left, in-right, reaches}
 use Rattle.node.proofs.Deliver.{bytes-same, may-vote, within-rules}
+use Rattle.rules.proofs.Passed.{time-within}
 use Rattle.rules.proofs.Notices.{lacks-notice}
 use Rattle.node.proofs.LeftSeats.{too-few, presents-leaves, back-leaves, minima-leaves, remove-leaves}
 
 -- the rules 3 to 7 and 8 to 14, and one of them that applies
-time-numbers : (c : Cycle) (d : Day) (a : Announcement) → timeRefusal c d a ≤ 7
-unfolding timeRefusal
-time-numbers c d a = search bounds depth 9
-
 module _ (n : Node) (sb : List ℕ) (a : Announcement) {j : ℕ} where
   in-time : 3 ≤ j → UpTo j (timeRefusal (n .state .cycle) (n .state .day) a) → UpTo j (deliverRefusal (n .state) (n .own) a sb)
   unfolding deliverRefusal
@@ -57,7 +53,7 @@ module _ (n : Node) (sb : List ℕ) (a : Announcement) {j : ℕ} where
       → UpTo j (deliverRefusal (n .state) (n .own) a sb)
   unfolding deliverRefusal
   in-action l h =
-      let t = time-numbers (n .state .cycle) (n .state .day) a in
+      let t = time-within (n .state .cycle) (n .state .day) a in
       in-rest _ _ (rule-within (isHalted (n .state) (n .own)) 3 j (omega arith))
       (in-rest (timeRefusal (n .state .cycle) (n .state .day) a) _ (omega arith) h)
 

@@ -1,6 +1,6 @@
 -- What a start comes to.
 use mathlib.Core.Path.{_≡_, refl}
-use mathlib.Core.Bool.{true, cond, not}
+use mathlib.Core.Bool.{true, not}
 use mathlib.Core.List.{List}
 use Prim.Native.Nat.{ℕ, _≤_}
 use lib.Dec.{eqb, ltb}
@@ -15,9 +15,7 @@ use Rattle.records.specs.StartQuery.{readStart}
 use Rattle.checkpoint.specs.Checkpoint.{CheckpointRead, isCheckpoint, readCheckpoint}
 use Rattle.refusals.proofs.Chains.{passes-rule, unrefused, by-rule, refused, not-zero}
 use Rattle.verdicts.specs.Verdicts.{startRefusal}
-use Rattle.node.specs.declared.StartReply.{StartReply}
-use Rattle.node.specs.declared.StartAnswer.the-variants.{Started}
-use Rattle.node.specs.Start.{refusesStart, startRead, startRecords, startOf}
+use Rattle.node.specs.Start.{startRead, startRecords, startOf}
 use Rattle.node.specs.Claims.{StartRefused, start-malformed, checkpoint-malformed, seat-unfit, life-below, Starting, refuses, starts}
 use Rattle.node.specs.Claims.{StartComesTo}
 

@@ -34,7 +34,7 @@ use Rattle.node.specs.declared.DeliverReply.{DeliverReply}
 use Rattle.node.specs.declared.QueryReply.{QueryReply}
 use Rattle.node.specs.declared.StartReply.{StartReply}
 use Rattle.node.specs.declared.StartAnswer.the-variants.{Started, Refused}
-use Rattle.verdicts.specs.Own.{mostMisses, heldSeat, ownAfresh, withVote, withMisses}
+use Rattle.verdicts.specs.Own.{mostMisses, ownAfresh, withVote, withMisses}
 use Rattle.node.specs.Query.{withMissCount, queryOf}
 use Rattle.node.specs.Deliver.{deliverOf}
 use Rattle.node.specs.Start.{startOf}

@@ -1,6 +1,5 @@
 -- "Query. Let t be the later of given and agreed day. Open when nothing below applies. 19, 20 and 21 add a miss; open sets misses to 0; 17 and 18
--- don't touch
--- them."
+-- don't touch them."
 use Prim.Native.Nat.{ℕ, _+_}
 use mathlib.Core.List.{List}
 use mathlib.Core.Bool.{Bool, cond, _&&_}

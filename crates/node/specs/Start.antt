@@ -1,6 +1,5 @@
 -- "Start. Commissioning is a start from the park's first checkpoint. Misses 0, no vote. A life above the listed one is taken, but votes only after a
--- rejoin
--- names it."
+-- rejoin names it."
 use Prim.Native.Nat.{ℕ}
 use mathlib.Core.List.{List}
 use mathlib.Core.Bool.{cond}

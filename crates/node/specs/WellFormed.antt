@@ -1,6 +1,5 @@
 -- Which nodes are well formed: "seat 1, life 4 (at least 1), voted flag 1 (0 or 1), voted announcement 24 (zero if none, else well formed and of this
--- cycle),
--- misses 1. The seat isn't free."
+-- cycle), misses 1. The seat isn't free."
 use mathlib.Core.Path.{_≡_}
 use Prim.Native.Nat.{ℕ}
 use mathlib.Core.List.{List}

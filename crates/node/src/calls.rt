@@ -1,7 +1,7 @@
 // The four calls, by value: each consumes the node and hands back the next one with its answer.
 ghost use mathlib.Core.Path.{_≡_};
 ghost use mathlib.Core.Bool.{true};
-ghost use Prim.Native.Nat.{_≤_, _<_};
+ghost use Prim.Native.Nat.{_<_};
 ghost use lib.ListN.{length};
 ghost use Rattle.records.specs.Layout.{announcementSize};
 ghost use Rattle.records.specs.Sheet.{isSheet};

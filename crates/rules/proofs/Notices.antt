@@ -2,11 +2,10 @@
 use mathlib.Core.Path.{_≡_, refl, sym, ap, _∙_}
 use mathlib.Core.Logic.{_≢_, _⊎_, inl, inr}
 use mathlib.Core.Bool.{Bool, true, false, and-eq-true-iff, false≢true}
-use mathlib.Core.List.{List, List·Memᴰ, List·Memᴰ·head, List·Memᴰ·tail}
+use mathlib.Core.List.{List, List·Memᴰ}
 use borrow.Author.Tests.{eqb-true, eqb-false, eq-eqb, ne-eqb, le-leb, not-true, not-false}
 use Rattle.lists.specs.Fold.{first}
-use Rattle.lists.proofs.Tests.{cond-cases}
-use Rattle.lists.proofs.Firsts.{first-listed}
+use Rattle.lists.proofs.Firsts.{first-listed, first-passes}
 use Rattle.state.specs.declared.Day.{Day}
 use Rattle.state.specs.declared.Subject.{Subject}
 use Rattle.state.specs.declared.Proposal.{Proposal}
@@ -15,12 +14,6 @@ use Rattle.tables.specs.Proposals.{isMature, matureProposal}
 use Rattle.tables.specs.Claims.{IsNotice}
 use Rattle.tables.proofs.TableFacts.{mature-is-notice}
 use Rattle.rules.specs.Rules.{lacksNotice}
-
--- Where some element passes a test, the first that is found passes it.
-first-passes : {A : Type 0} (p : A → Bool) (d : A) {x : A} {xs : List A} → List·Memᴰ x xs → p x ≡ true → p (first p d xs) ≡ true
-unfolding first
-first-passes p d (List·Memᴰ·head e) h = rw (← e, h) h
-first-passes p d (List·Memᴰ·tail {x = y} m) h = cond-cases (λ z. p z ≡ true) (p y) (λ g. g) (λ _. first-passes p d m h)
 
 module _ (rows : List Proposal) (d : Day) (x : Subject) where
   -- no listed proposal is a notice
@@ -45,15 +38,29 @@ module _ (rows : List Proposal) (d : Day) (x : Subject) where
             subject (sym same ∙ eqb-true (found .subject .kind) 0 (not-false _ (not-true _ (t .1)))),
       )
 
-  pub lacks-notice : x .kind ≢ 0 → NoNotice → lacksNotice rows d x ≡ true
+  -- a listed proposal that is one
+  pub record Noticed : Type 0 where
+    pub proposal : Proposal
+    pub listed : List·Memᴰ proposal rows
+    pub notice : IsNotice x d proposal
+
+  pub has-notice : x .kind ≢ 0 → lacksNotice rows d x ≡ false → Noticed
   unfolding matureProposal
-  lacks-notice k none = by (isProposal found) refl (first-listed (isMature x d) noProposal rows)
+  has-notice k e = by (first-listed (isMature x d) noProposal rows)
     where
       found : Proposal
       found = first (isMature x d) noProposal rows
 
-      by : (b : Bool) → isProposal found ≡ b → (found ≡ noProposal) ⊎ (List·Memᴰ found rows × (isMature x d found ≡ true))
-          → lacksNotice rows d x ≡ true
-      by false e f = rw (ne-eqb (x .kind) 0 k, e)
-      by true e (inl f) = absurd (false≢true (ap isProposal (sym f) ∙ e))
-      by true e (inr f) = absurd (none found (f .0) (mature-is-notice x d found (f .1)))
+      used : isProposal found ≡ true
+      used = not-false _ (rw (ne-eqb (x .kind) 0 k) at e)
+
+      by : (found ≡ noProposal) ⊎ (List·Memᴰ found rows × (isMature x d found ≡ true)) → Noticed
+      by (inl f) = absurd (false≢true (ap isProposal (sym f) ∙ used))
+      by (inr f) = record { proposal = found; listed = f .0; notice = mature-is-notice x d found (f .1) }
+
+  pub lacks-notice : x .kind ≢ 0 → NoNotice → lacksNotice rows d x ≡ true
+  lacks-notice k none = by (lacksNotice rows d x) refl
+    where
+      by : (b : Bool) → lacksNotice rows d x ≡ b → b ≡ true
+      by true e = refl
+      by false e = let n = has-notice k e in absurd (none (n .proposal) (n .listed) (n .notice))

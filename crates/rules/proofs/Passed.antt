@@ -25,7 +25,7 @@ quorum-left p m k h = ltb-false p (quorum p m k) (unrefused _ 12 refl h)
 -- Rules 4 to 7: it is the state's cycle, and not the last one, and no earlier day.
 pub record InTime (s : State) (a : Announcement) : Type 0 where
   pub cycle : a .cycle .0 ≡ s .cycle .0
-  pub not-last : s .cycle .0 ≢ 4294967295
+  pub not-last : s .cycle .0 ≢ lastCycle .0
   pub day : s .day .0 ≤ a .day .0
 
 pub in-time : (s : State) (a : Announcement) → timeRefusal (s .cycle) (s .day) a ≡ 0 → InTime s a
@@ -38,8 +38,7 @@ in-time s a h =
     let k5 = ltb-false (s .cycle .0) (a .cycle .0) (r5 .0) in
     record { cycle = omega arith; not-last = eqb-false _ _ (r6 .0); day = ltb-false _ _ (unrefused _ 7 refl (r6 .1)) }
 
--- The rules 4 to 14.
-pub time-within : (c : Cycle) (d : Day) (a : Announcement) → timeRefusal c d a ≤ 14
+pub time-within : (c : Cycle) (d : Day) (a : Announcement) → timeRefusal c d a ≤ 7
 unfolding timeRefusal
 time-within c d a = search bounds depth 9
 

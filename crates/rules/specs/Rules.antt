@@ -53,8 +53,7 @@ unfoldable pub presentWithout : Seat → ℕ → ℕ
 presentWithout x p = p - cond (isPresent x) 1 0
 
 -- 9 "seat's standing unfit", 11 "table full and the row is needed", 12, 13 "no such proposal or login", 14 "rejoin life not above the listed; ..
--- grant ending
--- before its day", for the action of each kind, announced on day d
+-- grant ending before its day", for the action of each kind, announced on day d
 unfoldable pub checkRefusal : State → Day → Action → ℕ
 checkRefusal s d (Propose x) = refuseIf (proposalsFull (s .proposals)) 11
 checkRefusal s d (Cancel c) = refuseIf (not (hasProposal c (s .proposals))) 13

@@ -1,6 +1,5 @@
 -- The numbers that bound what a node holds: "32 seats", "at most 16 proposals; at most 64 logins", "level-1 and level-2 trustees (1 to 8 each);
--- margin m (0 to
--- 7); least quorum k (1 to 32); silence limit S (1 to 365 days)".
+-- margin m (0 to 7); least quorum k (1 to 32); silence limit S (1 to 365 days)".
 use Prim.Native.Nat.{ℕ}
 
 -- the rows of the three tables

@@ -1,7 +1,7 @@
 // The subjects of proposals: a kind, 4 certify, 5 minima or 6 remove, and its argument bytes as one little-endian number.
 ghost use mathlib.Core.Path.{_≡_};
 ghost use Rattle.state.specs.Minima.{isInRange};
-ghost use Rattle.state.specs.Subjects.{minimaIn, isCertify, isMinima, isRemove, isSubject, noSubject, certifies, setsMinima, removes};
+ghost use Rattle.state.specs.Subjects.{minimaIn, isCertify, isMinima, isRemove, isSubject, certifies, setsMinima, removes};
 use crate::Minima;
 use crate::Subject;
 use crate::kinds::CERTIFY;

@@ -49,7 +49,7 @@ queryRefusal s o q =
     orElse refuseIf (isSilent (s .day) (s .minima .silence) (laterDay (q .day) (s .day))) 18
     orElse loginRefusal s q
 
--- 9 "seat's standing unfit (start: free or retired)", 14 "start life below" the listed one
+-- 9 "seat's standing unfit", for a start "free or retired"; 14 "start life below it"
 unfoldable pub startRefusal : State → Start → ℕ
 startRefusal s x =
     refuseIf (not (isActive (seatAt (x .seat) (s .seats)))) 9

@@ -1,5 +1,4 @@
 use denote.Ref.{now}
-use mathlib.Core.Path.{ap}
 use Rattle.checkpoint.proofs.Fields.{decoded-at}
 use borrow.Author.Needs.{needs}
 use Rattle.checkpoint.proofs.read.cycle_in.Statement.{statement}

@@ -1,6 +1,5 @@
 use native.Mathlib.Omega.{arith}
 use mathlib.Core.Path.{sym, _∙_}
-use mathlib.Core.Bool.{false≢true}
 use denote.Ref.{now}
 use Rattle.node.specs.Query.{queryOf}
 use Rattle.node.proofs.Query.{Why, why, adds-from}

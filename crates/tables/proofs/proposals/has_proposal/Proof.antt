@@ -1,7 +1,7 @@
-use Prim.Native.Nat.{_-_, _≤_, _<_}
-use mathlib.Core.Path.{_≡_, refl, sym, _∙_}
+use Prim.Native.Nat.{_-_}
+use mathlib.Core.Path.{_≡_, refl}
 use mathlib.Core.Bool.{_||_}
-use lib.ListN.{length, drop}
+use lib.ListN.{drop}
 use Rattle.state.specs.Limits.{proposalRows}
 use Rattle.lists.specs.Fold.{any}
 use Rattle.lists.proofs.Loops.{seek-inside, seek-turn, seek-end}

@@ -116,7 +116,7 @@ extern "C" {
 
 /* Starts a node from a checkpoint, at the seat and under the life of a start record.
  * Refusals: 1, 22, 9, 14. Writes the image with 0. A refused start makes no node. */
-#define ACCESS_NODE_STACK_START 4096
+#define ACCESS_NODE_STACK_START 5120
 uint32_t node_start(const uint8_t *checkpoint, size_t checkpoint_length,
                     const uint8_t *start, size_t start_length,
                     uint8_t *image_out, size_t image_out_length);

@@ -9,7 +9,7 @@ use borrow.Author.Tests.{ltb-true}
 use Rattle.state.specs.declared.Day.{Day}
 use Rattle.state.specs.declared.Cycle.{Cycle}
 use Rattle.state.specs.declared.State.{State}
-use Rattle.state.specs.Time.{isBeforeDay, laterDay}
+use Rattle.state.specs.Time.{CycleBefore, isBeforeDay, laterDay}
 use Rattle.state.specs.Seats.{quorumOf}
 use Rattle.tables.specs.Logins.{isListed}
 use Rattle.records.specs.declared.Announcement.{Announcement}
@@ -21,7 +21,7 @@ use Rattle.records.specs.Sheet.{rowsOf, countedSeats}
 use Rattle.records.specs.StartQuery.{readQuery}
 use Rattle.records.proofs.Counts.{quorums-overlap}
 use Rattle.checkpoint.specs.Checkpoint.{checkpointBytes, readCheckpoint}
-use Rattle.actions.specs.Claims.{Advances}
+use Rattle.actions.specs.Claims.{IsGrantOf, Advances}
 use Rattle.actions.proofs.Performed.{always-advances}
 use Rattle.node.specs.declared.Node.{Node}
 use Rattle.node.specs.declared.DeliverReply.{DeliverReply}
@@ -36,7 +36,7 @@ use Rattle.node.proofs.Query.{query-comes-to}
 use Rattle.node.proofs.Numbers.{deliver-numbers, query-numbers}
 use Rattle.node_c.specs.Calls.{delivered, asked}
 use Rattle.agreement.specs.History.{History, Moment, Outcome, run, answer}
-use Rattle.agreement.specs.Claims.{Performed, Opened, Park, EquivocationBound, Agreement, Ended, GrantedAgain, Demand3, AlwaysWellFormed}
+use Rattle.agreement.specs.Claims.{Performed, Opened, PerformedIn, Park, EquivocationBound, Agreement, Ended, Demand3, AlwaysWellFormed}
 use Rattle.agreement.specs.Claims.{ImagesReadBack}
 use Rattle.agreement.specs.Chain.{Step, Reached, AlwaysReached}
 use Rattle.agreement.proofs.Chain.{GrantBetween, agree, days, granted-since}
@@ -99,6 +99,22 @@ not-before-given a b = go (isBeforeDay a b) refl
     go true e = let h = ltb-true (a .0) (b .0) e in omega arith
     go false e = omega arith
 
+-- ---- a performed deliver call is a step of a chain
+
+abbrev pub as-performed : {calls : History} {s : State} {a : Announcement} → Step calls s a → PerformedIn calls
+as-performed {calls} {s} {a} x = record {
+  moment = x .moment;
+  inList = x .inList;
+  state = s;
+  bytes = x .bytes;
+  announcement = a;
+  sheet = x .sheet;
+  performed = x .performed;
+}
+
+abbrev pub taken : {calls : History} (p : PerformedIn calls) → Step calls (p .state) (p .announcement)
+taken p = record { moment = p .moment; inList = p .inList; bytes = p .bytes; sheet = p .sheet; performed = p .performed }
+
 -- ---- the chain of a park's states
 
 module _ (first : List ℕ) (calls : History) (park : Park first calls) where
@@ -112,6 +128,13 @@ module _ (first : List ℕ) (calls : History) (park : Park first calls) where
       let w = always first calls park (x .moment) (x .inList) .0 .held (p .host) (p .node) (p .held) .well-formed in
       subst (λ (z : State). Advances z a) (sym (p .state))
       (always-advances (p .node .state) a (record { fits = w .fits .0; well-formed = w .state }) (D .accepted .admitted .time))
+
+  -- a performed deliver call starts in a state of the chain
+  pub from-first : (p : PerformedIn calls) → Reached (readCheckpoint first .state) Taken (p .state)
+  from-first p =
+      let x = p .performed in
+      subst (Reached (readCheckpoint first .state) Taken) (sym (x .state))
+      (always first calls park (p .moment) (p .inList) .0 .held (x .host) (x .node) (x .held) .reach)
 
   module _ (bound : EquivocationBound calls) where
     -- each of two sheets shows a quorum, so they share more seats than the bound allows: the announcements are the same
@@ -127,33 +150,42 @@ module _ (first : List ℕ) (calls : History) (park : Park first calls) where
         go : Dec (x .bytes ≡ y .bytes) → a ≡ b
         go (yes e) = let q : A.Read a ≡ A.Read b = sym (x .performed .read) ∙ ap readAnnouncement e ∙ y .performed .read in cc
         go (no e) =
-            let most = bound (x .moment) (y .moment) (x .inList) (y .inList) s (x .bytes) (y .bytes) a b (x .sheet) (y .sheet) (x .performed)
-            (y .performed) e in
+            let most = bound (as-performed x) (as-performed y) refl e in
             let least = quorums-overlap s (rowsOf (x .sheet)) (rowsOf (y .sheet)) (quorate a x) (quorate b y) in
             absurd (omega arith)
 
     agreement : Agreement calls
-    agreement t u i j g h n k en ek c =
-        let N = always first calls park t i .1 .held g n en .reach in
-        let K = always first calls park u j .1 .held h k ek .reach in
+    agreement n k c =
+        let N = always first calls park (n .moment) (n .inList) .1 .held (n .host) (n .node) (n .held) .reach in
+        let K = always first calls park (k .moment) (k .inList) .1 .held (k .host) (k .node) (k .held) .reach in
         ap checkpointBytes (agree (readCheckpoint first .state) Taken one advances N K (ap (λ (x : Cycle). x .0) c))
 
     ended : Ended calls
-    ended t u i j s ab a sb login p ends n q o same late =
-        found (granted-since (readCheckpoint first .state) Taken one advances s a login S d ends N later listed)
+    ended e o ends late = found (granted-since (readCheckpoint first .state) Taken one advances s a login S (taken e) ends N later listed)
       where
-        d : Taken s a
-        d = record { moment = t; inList = i; bytes = ab; sheet = sb; performed = p }
+        s : State
+        s = e .state
+
+        a : Announcement
+        a = e .announcement
+
+        n : Node
+        n = o .node
+
+        q : Query
+        q = o .query
+
+        login : ℕ
+        login = q .login
+
+        asked : Opens n q
+        asked = opens (o .moment) n q (o .opened)
 
         S : Reached (readCheckpoint first .state) Taken s
-        S = subst (Reached (readCheckpoint first .state) Taken) (sym (p .state))
-            (always first calls park t i .0 .held (p .host) (p .node) (p .held) .reach)
+        S = from-first e
 
         N : Reached (readCheckpoint first .state) Taken (n .state)
-        N = always first calls park u j .0 .held (o .host) n (o .held) .reach
-
-        listed : isListed login (n .state .logins) ≡ true
-        listed = subst (λ (l : ℕ). isListed l (n .state .logins) ≡ true) same (opens u n q o .listed)
+        N = always first calls park (o .moment) (o .inList) .0 .held (o .opened .host) n (o .opened .held) .reach
 
         later : s .cycle .0 < n .state .cycle .0
         later = pick (decLe (n .state .cycle .0) (s .cycle .0))
@@ -161,36 +193,28 @@ module _ (first : List ℕ) (calls : History) (park : Park first calls) where
             pick : Dec (n .state .cycle .0 ≤ s .cycle .0) → s .cycle .0 < n .state .cycle .0
             pick (yes h) =
                 let x = days (readCheckpoint first .state) Taken one advances N S h in
-                let y = advances s a d .not-before in
-                let z = opens u n q o .within-silence in
+                let y = advances s a (taken e) .not-before in
+                let z = asked .within-silence in
                 let v = not-before-given (q .day) (n .state .day) in
                 absurd (omega arith)
             pick (no h) = omega arith
 
-        found : GrantBetween Taken login (s .cycle .0) (n .state .cycle .0) → GrantedAgain calls login (s .cycle) (n .state .cycle)
-        found x = record {
-          moment = x .step .moment;
-          inList = x .step .inList;
-          state = x .state;
-          bytes = x .step .bytes;
-          announcement = x .announcement;
-          sheet = x .step .sheet;
-          performed = x .step .performed;
-          row = x .grants .row;
-          grants = x .grants .grants;
-          named = x .grants .named;
-          above = x .above;
-          below = x .below;
-        }
+        listed : isListed login (n .state .logins) ≡ true
+        listed = asked .listed
+
+        found : GrantBetween Taken login (s .cycle .0) (n .state .cycle .0)
+            → (g : PerformedIn calls) × IsGrantOf login (g .announcement) × CycleBefore (s .cycle) (g .state .cycle)
+            × CycleBefore (g .state .cycle) (n .state .cycle)
+        found x = (as-performed (x .step), x .grants, x .above, x .below)
 
 pub demand-3 : Demand3
 demand-3 first calls park bound = (agreement first calls park bound, ended first calls park bound)
 
 pub always-well-formed : AlwaysWellFormed
-always-well-formed first calls park t m h n e = always first calls park t m .1 .held h n e .well-formed
+always-well-formed first calls park n = always first calls park (n .moment) (n .inList) .1 .held (n .host) (n .node) (n .held) .well-formed
 
 pub always-reached : AlwaysReached
-always-reached first calls park t m h n e = always first calls park t m .1 .held h n e .reach
+always-reached first calls park n = always first calls park (n .moment) (n .inList) .1 .held (n .host) (n .node) (n .held) .reach
 
 pub images-read-back : ImagesReadBack
 images-read-back first calls park t m = always first calls park t m .1 .reads

@@ -13,6 +13,7 @@ use Rattle.lists.specs.Fold.{all}
 use Rattle.binary.specs.Number.{Bytes, toBytes, overwrite}
 use Rattle.binary.specs.Codec.{encodeRows}
 use Rattle.state.specs.declared.Cycle.{Cycle}
+use Rattle.state.specs.declared.State.{State}
 use Rattle.records.specs.declared.Announcement.{Announcement}
 use Rattle.records.specs.declared.AnnouncementRead.the-variants.{Read}
 use Rattle.records.specs.Announcement.{readAnnouncement}
@@ -26,9 +27,9 @@ use Rattle.examples.specs.Records.{firstCheckpoint, startSeat0, grantTo, twoRow
 use Rattle.examples.proofs.Compute.{calls-by-value}
 use Rattle.agreement.specs.History.{byValue, throughC, Call, start, deliver, query, checkpoint, History, Cluster, empty, run, Moment}
 use Rattle.agreement.specs.History.{momentsFrom, moments, answer}
-use Rattle.agreement.specs.Claims.{HoldsBytes, Park, EquivocationBound, Agreement}
+use Rattle.agreement.specs.Claims.{PerformedIn, HeldIn, HoldsBytes, Park, EquivocationBound, Agreement}
 use Rattle.agreement.specs.NotIdle.{startSeat1, otherRows, end501, peaceful, divided, WithinBound, BeyondBound}
-use Rattle.agreement.proofs.Demand.{advances}
+use Rattle.agreement.proofs.Demand.{advances, taken}
 
 -- what unfolds where calls at hosts are computed
 unfoldable pub calls-at-hosts : Unit {0}
@@ -111,12 +112,16 @@ AsAnnounced g (query h qb out) = Unit {0}
 AsAnnounced g (checkpoint h out) = Unit {0}
 
 bounded : (calls : History) (g : ℕ → List ℕ) → Park firstCheckpoint calls → Each (AsAnnounced g) calls → EquivocationBound calls
-bounded calls g k d t u i j s ab bb a b asb bsb p q n =
-    let x = advances firstCheckpoint calls k s a (record { moment = t; inList = i; bytes = ab; sheet = asb; performed = p }) .this in
-    let y = advances firstCheckpoint calls k s b (record { moment = u; inList = j; bytes = bb; sheet = bsb; performed = q }) .this in
-    let e = subst (AsAnnounced g) (p .called) (each (AsAnnounced g) empty calls d t i) a (p .read) in
-    let f = subst (AsAnnounced g) (q .called) (each (AsAnnounced g) empty calls d u j) b (q .read) in
-    absurd (n (e ∙ ap (λ (c : Cycle). g (c .0)) (x ∙ sym y) ∙ sym f))
+bounded calls g k d p q s n =
+    let x = advances firstCheckpoint calls k (p .state) (p .announcement) (taken p) .this in
+    let y = advances firstCheckpoint calls k (q .state) (q .announcement) (taken q) .this in
+    let same = x ∙ ap (λ (u : State). u .cycle) s ∙ sym y in
+    absurd (n (announced-by p ∙ ap (λ (c : Cycle). g (c .0)) same ∙ sym (announced-by q)))
+  where
+    announced-by : (r : PerformedIn calls) → r .bytes ≡ g (r .announcement .cycle .0)
+    announced-by r =
+        let p = r .performed in
+        subst (AsAnnounced g) (p .called) (each (AsAnnounced g) empty calls d (r .moment) (r .inList)) (r .announcement) (p .read)
 
 -- ---- within the bound
 
@@ -167,8 +172,11 @@ unfolding calls-at-hosts
 split A =
     let n = deliverOf (startOf firstCheckpoint startSeat0 .node) (grantTo 120) (twoRows 0) .node in
     let k = deliverOf (startOf firstCheckpoint startSeat1 .node) (grantTo 121) otherRows .node in
-    let e = A _ _ (List·Memᴰ·tail (List·Memᴰ·tail (List·Memᴰ·head refl))) (List·Memᴰ·tail (List·Memᴰ·tail (List·Memᴰ·tail (List·Memᴰ·head refl))))
-    (byValue 0) (throughC 1) n k refl refl refl in
+    let third = List·Memᴰ·tail (List·Memᴰ·tail (List·Memᴰ·head refl)) in
+    let fourth = List·Memᴰ·tail (List·Memᴰ·tail (List·Memᴰ·tail (List·Memᴰ·head refl))) in
+    let one : HeldIn divided = record { moment = _; inList = third; host = byValue 0; node = n; held = refl } in
+    let other : HeldIn divided = record { moment = _; inList = fourth; host = throughC 1; node = k; held = refl } in
+    let e = A one other refl in
     let z : _≡_ {A = ℕ} 120 121 = ap (λ (b : List ℕ). getD b 472 0) e in
     omega arith
 

@@ -1,15 +1,13 @@
 -- How a park comes to a state: from that of its first checkpoint, by announcements that deliver calls of the list perform.
 use mathlib.Core.Path.{_≡_}
 use mathlib.Core.List.{List}
-use mathlib.Core.Option.{some}
 use Prim.Native.Nat.{ℕ}
 use Rattle.state.specs.declared.State.{State}
 use Rattle.records.specs.declared.Announcement.{Announcement}
 use Rattle.checkpoint.specs.Checkpoint.{readCheckpoint}
 use Rattle.actions.specs.Perform.{perform}
-use Rattle.node.specs.declared.Node.{Node}
-use Rattle.agreement.specs.History.{Host, History, Moment, nodeAt, after}
-use Rattle.agreement.specs.Claims.{_∈_, Performed, Park}
+use Rattle.agreement.specs.History.{History, Moment}
+use Rattle.agreement.specs.Claims.{_∈_, Performed, HeldIn, Park}
 
 -- the announcement a is performed from s by a deliver call of the list
 pub record Step (calls : History) (s : State) (a : Announcement) : Type 0 where
@@ -28,5 +26,4 @@ pub data Reached (first : State) (By : State → Announcement → Type 0) : Stat
 -- Every node that a host holds after a call has such a chain, with or without the bound.
 abbrev pub AlwaysReached : Type 0
 AlwaysReached = (first : List ℕ) (calls : History) → Park first calls
-    → (t : Moment) → t ∈ calls → (h : Host) (n : Node) → nodeAt (after t) h ≡ some n
-    → Reached (readCheckpoint first .state) (Step calls) (n .state)
+    → (n : HeldIn calls) → Reached (readCheckpoint first .state) (Step calls) (n .node .state)

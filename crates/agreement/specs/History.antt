@@ -25,6 +25,13 @@ pub data Call : Type 0 where
   query : (host : Host) (question out : List ℕ) → Call
   checkpoint : (host : Host) (out : List ℕ) → Call
 
+-- The numbers that are no refusal: started, performed, open or given; voted.
+abbrev pub accepted : Option ℕ
+accepted = some 0
+
+abbrev pub voted : Option ℕ
+voted = some 128
+
 -- A history (01: list of calls).
 abbrev pub History : Type 0
 History = List Call

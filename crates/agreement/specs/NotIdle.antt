@@ -2,12 +2,11 @@
 -- splits.
 use mathlib.Core.Path.{_≡_}
 use mathlib.Core.List.{List, [], _∷_, map}
-use mathlib.Core.Option.{some}
 use Prim.Native.Nat.{ℕ}
 use lib.ListN.{replicate}
 use Rattle.image.specs.Layout.{imageSize}
 use Rattle.examples.specs.Records.{firstCheckpoint, startSeat0, grantTo, twoRows}
-use Rattle.agreement.specs.History.{byValue, throughC, start, deliver, History, moments, answer}
+use Rattle.agreement.specs.History.{byValue, throughC, start, deliver, History, moments, answer, accepted}
 use Rattle.agreement.specs.Claims.{Park, EquivocationBound, Agreement}
 
 -- seat 1 under life 1
@@ -47,9 +46,9 @@ divided = commissioned (deliver (byValue 0) (grantTo 120) (twoRows 0) [] ∷ del
 pub record WithinBound : Type 0 where
   pub park : Park firstCheckpoint peaceful
   pub bound : EquivocationBound peaceful
-  pub performed : map answer (moments peaceful) ≡ replicate 6 (some 0)
+  pub performed : map answer (moments peaceful) ≡ replicate 6 accepted
 
 pub record BeyondBound : Type 0 where
   pub park : Park firstCheckpoint divided
-  pub performed : map answer (moments divided) ≡ replicate 4 (some 0)
+  pub performed : map answer (moments divided) ≡ replicate 4 accepted
   pub splits : ¬ Agreement divided

@@ -1,5 +1,5 @@
 -- The double-voter bound, from what honest nodes do.
-use mathlib.Core.Path.{_≡_, sym, _∙_}
+use mathlib.Core.Path.{_≡_, refl, sym, _∙_}
 use mathlib.Core.Logic.{_⊎_, inl, inr}
 use mathlib.Core.Bool.{true, _&&_, and-eq-true-iff}
 use mathlib.Core.List.{List, List·Memᴰ}
@@ -8,11 +8,11 @@ use native.Mathlib.Omega.{arith}
 use Rattle.state.specs.declared.State.{State}
 use Rattle.state.specs.Seats.{freeSeat, seatAt}
 use Rattle.records.specs.declared.Announcement.{Announcement}
-use Rattle.records.specs.Sheet.{rowsOf, counts, countedOnBoth}
+use Rattle.records.specs.Sheet.{Row, rowsOf, counts, countedOnBoth}
 use Rattle.agreement.specs.History.{History, Moment}
 use Rattle.agreement.specs.Claims.{Park, EquivocationBound}
 use Rattle.agreement.specs.Chain.{Step}
-use Rattle.agreement.proofs.Demand.{demand-3}
+use Rattle.agreement.proofs.Demand.{taken, demand-3}
 use Rattle.assurance.specs.Earned.{VoteOf, GoesOn, Steady, HonestVote, Honest, Earned}
 use Rattle.lists.proofs.Members.{at-most}
 use Rattle.assurance.proofs.Votes.{one-vote, same-call}
@@ -35,26 +35,35 @@ module _ (first : List ℕ) (calls : History) (park : Park first calls)
 
   bound : EquivocationBound calls
   unfolding countedOnBoth
-  bound t u m k s ab bb a b asb bsb p q differ =
-      omega (arith, h .few, at-most (λ i x. counts (rowsOf asb) i x && counts (rowsOf bsb) i x) freeSeat (s .seats) (h .faulty) both)
+  bound p q same differ = omega (arith, h .few, at-most (λ i x. counts one i x && counts other i x) freeSeat (s .seats) (h .faulty) both)
     where
-      h : Honest calls s
-      h = honest s a (record { moment = t; inList = m; bytes = ab; sheet = asb; performed = p })
+      s : State
+      s = p .state
 
-      both : (i : ℕ) → (counts (rowsOf asb) i (seatAt i (s .seats)) && counts (rowsOf bsb) i (seatAt i (s .seats))) ≡ true → List·Memᴰ i (h .faulty)
-      both i e = at (h .others t ab a asb m p i (c .0)) (h .others u bb b bsb k q i (c .1))
+      one : List Row
+      one = rowsOf (p .sheet)
+
+      other : List Row
+      other = rowsOf (q .sheet)
+
+      h : Honest calls s
+      h = honest s (p .announcement) (taken p)
+
+      both : (i : ℕ) → (counts one i (seatAt i (s .seats)) && counts other i (seatAt i (s .seats))) ≡ true → List·Memᴰ i (h .faulty)
+      both i e = at (h .others p refl i (c .0)) (h .others q (sym same) i (c .1))
         where
-          c : (counts (rowsOf asb) i (seatAt i (s .seats)) ≡ true) × (counts (rowsOf bsb) i (seatAt i (s .seats)) ≡ true)
-          c = and-eq-true-iff (counts (rowsOf asb) i (seatAt i (s .seats))) (counts (rowsOf bsb) i (seatAt i (s .seats))) .0 e
+          c : (counts one i (seatAt i (s .seats)) ≡ true) × (counts other i (seatAt i (s .seats)) ≡ true)
+          c = and-eq-true-iff (counts one i (seatAt i (s .seats))) (counts other i (seatAt i (s .seats))) .0 e
 
           Vote : List ℕ → Type 0
           Vote x = HonestVote calls i (seatAt i (s .seats) .life) (s .cycle .0) x
 
-          at : List·Memᴰ i (h .faulty) ⊎ Vote ab → List·Memᴰ i (h .faulty) ⊎ Vote bb → List·Memᴰ i (h .faulty)
+          at : List·Memᴰ i (h .faulty) ⊎ Vote (p .bytes) → List·Memᴰ i (h .faulty) ⊎ Vote (q .bytes) → List·Memᴰ i (h .faulty)
           at (inl f) w = f
           at (inr v) (inl f) = f
           at (inr v) (inr w) =
-              absurd (differ (steady-vote i (seatAt i (s .seats) .life) (s .cycle .0) ab bb (v .steady) (v .moment) (w .moment) (v .vote) (w .vote)))
+              let seat = seatAt i (s .seats) in
+              absurd (differ (steady-vote i (seat .life) (s .cycle .0) (p .bytes) (q .bytes) (v .steady) (v .moment) (w .moment) (v .vote) (w .vote)))
 
 pub earned : Earned
 earned first calls park honest = let b = bound first calls park honest in (b, demand-3 first calls park b)

@@ -114,9 +114,11 @@ module _ (first : State) (calls : History) (login : ℕ) where
           rw was (later a x l e (before (ap isLogin (sym was) ∙ listed)))
 
 pub open-is-granted : OpenIsGranted
-open-is-granted first calls park t m n q o =
-    let O = opens t n q o in
-    let R = always first calls park t m .0 .held (o .host) n (o .held) .reach in
+open-is-granted first calls park o =
+    let n = o .node in
+    let q = o .query in
+    let O = opens (o .moment) n q (o .opened) in
+    let R = always first calls park (o .moment) (o .inList) .0 .held (o .opened .host) n (o .opened .held) .reach in
     let v = not-before-given (q .day) (n .state .day) in
     let w = O .within-silence in
     let e = O .not-ended in

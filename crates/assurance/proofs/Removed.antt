@@ -1,5 +1,5 @@
 -- A removed seat answers no one for long.
-use mathlib.Core.Path.{_≡_, sym, ap, _∙_, subst}
+use mathlib.Core.Path.{_≡_, ap}
 use mathlib.Core.Bool.{true, false≢true}
 use mathlib.Core.List.{List}
 use Prim.Native.Nat.{ℕ, _≤_, _<_}
@@ -21,7 +21,7 @@ use Rattle.agreement.specs.Claims.{Opened, Park, EquivocationBound}
 use Rattle.agreement.specs.Chain.{Step, Reached}
 use Rattle.agreement.proofs.Chain.{days, through}
 use Rattle.agreement.proofs.Steps.{always}
-use Rattle.agreement.proofs.Demand.{opens, not-before-given, advances, one}
+use Rattle.agreement.proofs.Demand.{opens, not-before-given, advances, taken, from-first, one}
 use Rattle.assurance.specs.Removed.{RemovedNeverOpens}
 use Rattle.assurance.proofs.Facts.{step-found}
 use Rattle.assurance.proofs.Lives.{set-there, rises}
@@ -36,12 +36,14 @@ module _ (first : List ℕ) (calls : History) (park : Park first calls) (bound :
   Reach s = Reached (readCheckpoint first .state) (Step calls) s
 
   -- a node of a cycle up to that of the remove is silent on such a day, and a later one is halted
-  late : (s : State) (a : Announcement) (i : ℕ) → Reach s → Step calls s a → a .action ≡ Remove i
-      → (u : Moment) (n : Node) (q : Query) → Reach (n .state) → Opened u n q → n .own .seat ≡ i → ¬
-      (n .state .minima .silence < daysSince (q .day) (a .day))
+  late : (s : State) (a : Announcement) → Reach s → Step calls s a → (u : Moment) (n : Node) (q : Query) → Reach (n .state) → Opened u n q
+      → a .action ≡ Remove (n .own .seat) → ¬ (n .state .minima .silence < daysSince (q .day) (a .day))
   unfolding perform
-  late s a i S d removes u n q N o own above = pick (decLe (n .state .cycle .0) (s .cycle .0))
+  late s a S d u n q N o removes above = pick (decLe (n .state .cycle .0) (s .cycle .0))
     where
+      i : ℕ
+      i = n .own .seat
+
       pick : Dec (n .state .cycle .0 ≤ s .cycle .0) → ⊥
       pick (yes h) =
           let x = days (readCheckpoint first .state) (Step calls) (one first calls park bound) (advances first calls park) N S h in
@@ -54,11 +56,9 @@ module _ (first : List ℕ) (calls : History) (park : Park first calls) (bound :
           let f = rw removes at (step-found first calls park s a d) in
           let there : seatAt i (perform s a .seats) .standing ≡ retired = rw removes (remove-retires s (a .day) i f) in
           let now = rises first calls park i R .stays-retired there in
-          opens u n q o .running (ap (λ (j : ℕ). seatAt j (n .state .seats) .standing) own ∙ now)
+          opens u n q o .running now
 
 pub removed-never-opens : RemovedNeverOpens
-removed-never-opens first calls park bound t u m k s ab a sb i p removes n q o own =
-    late first calls park bound s a i
-    (subst (Reach first calls park bound) (sym (p .state)) (always first calls park t m .0 .held (p .host) (p .node) (p .held) .reach))
-    (record { moment = t; inList = m; bytes = ab; sheet = sb; performed = p })
-    removes u n q (always first calls park u k .0 .held (o .host) n (o .held) .reach) o own
+removed-never-opens first calls park bound r o =
+    late first calls park bound (r .state) (r .announcement) (from-first first calls park r) (taken r) (o .moment) (o .node) (o .query)
+    (always first calls park (o .moment) (o .inList) .0 .held (o .opened .host) (o .node) (o .opened .held) .reach) (o .opened)

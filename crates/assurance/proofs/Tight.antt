@@ -22,7 +22,7 @@ use Rattle.verdicts.specs.Own.{isSameBytes}
 use Rattle.node.proofs.Deliver.{same-bytes}
 use Rattle.agreement.specs.History.{Host, byValue, throughC, Call, start, deliver, query, checkpoint, History, Cluster, empty, nodeAt, Moment}
 use Rattle.agreement.specs.History.{momentsFrom, moments, answer, after}
-use Rattle.agreement.specs.Claims.{_∈_, Agreement, runAll}
+use Rattle.agreement.specs.Claims.{_∈_, HeldIn, Agreement, runAll}
 use Rattle.agreement.proofs.NotIdle.{calls-at-hosts, Each, isBytes, holdsBytes, FromFirst, park}
 use Rattle.records.specs.Sheet.{sheetOf}
 use Rattle.assurance.specs.Tight.{firstState, first, rowsBelow, fullSheet, divided, LooserBound, BeyondByOne, BoundIsTight}
@@ -59,9 +59,12 @@ findsFew w (checkpoint h out) = true
 
 looser-bound : (calls : History) → All (λ t. findsFew (t .before) (t .call) ≡ true) (moments calls) → LooserBound calls
 unfolding countedOnBoth countedSeats
-looser-bound calls f t u i j s ab bb a b asb bsb p q n =
-    let few = subst (λ o. hasFew o ≡ true) (p .held) (subst (λ c. findsFew (t .before) c ≡ true) (p .called) (all-in f i)) in
-    rw (p .state) (le-trans (fewer (counts (rowsOf asb)) (counts (rowsOf bsb)) 0 _) (le-trans (counts-once (rowsOf bsb) _) (leb-true _ _ few)))
+looser-bound calls f p q e n =
+    let x = p .performed in
+    let one = rowsOf (p .sheet) in
+    let other = rowsOf (q .sheet) in
+    let few = subst (λ o. hasFew o ≡ true) (x .held) (subst (λ c. findsFew (p .moment .before) c ≡ true) (x .called) (all-in f (p .inList))) in
+    rw (x .state) (le-trans (fewer (counts one) (counts other) 0 _) (le-trans (counts-once other _) (leb-true _ _ few)))
 
 -- ---- two nodes of one cycle differ
 
@@ -80,7 +83,9 @@ split calls t u i j g h d A = by (nodeAt (after t) g) refl (nodeAt (after u) h) 
     by (some n) e none f d = false≢true d
     by (some n) e (some k) f d =
         let o = simp and-eq-true-iff at d in
-        let same = A t u i j g h n k e f (ap cycle (eqb-true _ _ (o .0))) in
+        let one : HeldIn calls = record { moment = t; inList = i; host = g; node = n; held = e } in
+        let other : HeldIn calls = record { moment = u; inList = j; host = h; node = k; held = f } in
+        let same = A one other (ap cycle (eqb-true _ _ (o .0))) in
         let b : isSameBytes (checkpointBytes (n .state)) (checkpointBytes (k .state)) ≡ true = rw same (same-bytes (checkpointBytes (k .state))) in
         false≢true (sym (not-true _ (o .1)) ∙ b)
 

@@ -12,8 +12,8 @@ use Rattle.records.specs.declared.Announcement.{Announcement}
 use Rattle.records.specs.Sheet.{rowsOf, counts}
 use Rattle.node.specs.declared.Node.{Node}
 use Rattle.examples.specs.Records.{grantTo}
-use Rattle.agreement.specs.History.{Host, byValue, Call, start, deliver, History, Moment, moments, nodeAt, answer}
-use Rattle.agreement.specs.Claims.{_∈_, Performed, Park, EquivocationBound, Agreement, Ended}
+use Rattle.agreement.specs.History.{Host, byValue, Call, start, deliver, History, Moment, moments, nodeAt, answer, accepted, voted}
+use Rattle.agreement.specs.Claims.{_∈_, PerformedIn, Park, EquivocationBound, Agreement, Ended}
 use Rattle.agreement.specs.Chain.{Step}
 use Rattle.records.specs.Sheet.{sheetOf}
 use Rattle.assurance.specs.Tight.{first, startSeat, fullSheet}
@@ -24,7 +24,7 @@ pub record VotedAt (t : Moment) (host : Host) (n : Node) (ab : List ℕ) : Type 
   pub out : List ℕ
   pub called : t .call ≡ deliver host ab sheet out
   pub held : nodeAt (t .before) host ≡ some n
-  pub answered : answer t ≡ some 128
+  pub answered : answer t ≡ voted
 
 -- a vote of this seat under this life for the announcement ab, at moment t of the list and in this cycle
 pub record VoteOf (calls : History) (seat life cycle : ℕ) (ab : List ℕ) (t : Moment) : Type 0 where
@@ -48,7 +48,7 @@ pub data Between (P : Moment → Type 0) (t u : Moment) : List Moment → Type 0
 
 -- the moment is no accepted start at this host
 abbrev pub NoStart : Host → Moment → Type 0
-NoStart h m = (cb sb out : List ℕ) → m .call ≡ start h cb sb out → ¬ (answer m ≡ some 0)
+NoStart h m = (cb sb out : List ℕ) → m .call ≡ start h cb sb out → ¬ (answer m ≡ accepted)
 
 -- The second vote is given at the host of the first, later in the list, and that host is not started between them.
 pub record GoesOn {seat life cycle : ℕ} {ab bb : List ℕ} (calls : History) (t u : Moment) (v : VoteOf calls seat life cycle ab t)
@@ -73,9 +73,8 @@ pub record HonestVote (calls : History) (seat life cycle : ℕ) (ab : List ℕ) 
 pub record Honest (calls : History) (s : State) : Type 0 where
   pub faulty : List ℕ
   pub few : length faulty ≤ 2 * s .minima .margin
-  pub others : (t : Moment) (ab : List ℕ) (a : Announcement) (sb : List ℕ) → t ∈ calls → Performed t s ab a sb
-      → (i : ℕ) → counts (rowsOf sb) i (seatAt i (s .seats)) ≡ true
-      → List·Memᴰ i faulty ⊎ HonestVote calls i (seatAt i (s .seats) .life) (s .cycle .0) ab
+  pub others : (p : PerformedIn calls) → p .state ≡ s → (i : ℕ) → counts (rowsOf (p .sheet)) i (seatAt i (s .seats)) ≡ true
+      → List·Memᴰ i faulty ⊎ HonestVote calls i (seatAt i (s .seats) .life) (s .cycle .0) (p .bytes)
 
 -- Where that is so in every state from which an announcement is performed, the bound holds, and with it agreement and ended.
 abbrev pub Earned : Type 0

@@ -15,8 +15,8 @@ use Rattle.records.specs.declared.Query.{Query}
 use Rattle.checkpoint.specs.Checkpoint.{readCheckpoint}
 use Rattle.actions.specs.Perform.{perform}
 use Rattle.node.specs.declared.Node.{Node}
-use Rattle.agreement.specs.History.{History, Moment}
-use Rattle.agreement.specs.Claims.{_∈_, Opened, Park}
+use Rattle.agreement.specs.History.{History}
+use Rattle.agreement.specs.Claims.{OpenedIn, Park}
 use Rattle.agreement.specs.Chain.{Step, Reached}
 
 -- The announcement neither grants nor ends the login.
@@ -46,4 +46,4 @@ pub record OpenRow (first : State) (calls : History) (n : Node) (q : Query) : Ty
 
 abbrev pub OpenIsGranted : Type 0
 OpenIsGranted = (first : List ℕ) (calls : History) → Park first calls
-    → (t : Moment) → t ∈ calls → (n : Node) (q : Query) → Opened t n q → OpenRow (readCheckpoint first .state) calls n q
+    → (o : OpenedIn calls) → OpenRow (readCheckpoint first .state) calls (o .node) (o .query)

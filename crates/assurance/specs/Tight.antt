@@ -3,7 +3,6 @@
 use mathlib.Core.Path.{_≡_}
 use mathlib.Core.Logic.{_≢_}
 use mathlib.Core.List.{List, [], _++_, _∷_, map}
-use mathlib.Core.Option.{some}
 use Prim.Native.Nat.{ℕ, zero, suc, _+_, _*_, _-_, _≤_}
 use lib.ListN.{replicate}
 use Rattle.state.specs.declared.State.{State}
@@ -12,12 +11,11 @@ use Rattle.state.specs.Time.{cycle, day}
 use Rattle.state.specs.Seats.{present, freeSeat}
 use Rattle.state.specs.Rows.{noProposal}
 use Rattle.state.specs.Rows.{noLogin}
-use Rattle.records.specs.declared.Announcement.{Announcement}
 use Rattle.records.specs.Sheet.{Row, rowsOf, countedOnBoth}
 use Rattle.checkpoint.specs.Checkpoint.{checkpointBytes}
 use Rattle.examples.specs.Records.{grantTo}
-use Rattle.agreement.specs.History.{byValue, throughC, start, deliver, History, Moment, moments, answer}
-use Rattle.agreement.specs.Claims.{_∈_, Performed, Park, Agreement}
+use Rattle.agreement.specs.History.{byValue, throughC, start, deliver, History, moments, answer, accepted}
+use Rattle.agreement.specs.Claims.{PerformedIn, Park, Agreement}
 use Rattle.agreement.specs.NotIdle.{room}
 use Rattle.records.specs.Sheet.{sheetOf}
 
@@ -63,14 +61,13 @@ divided m =
 
 -- the double-voter bound with one seat more
 abbrev pub LooserBound : History → Type 0
-LooserBound calls = (t u : Moment) → t ∈ calls → u ∈ calls
-    → (s : State) (ab bb : List ℕ) (a b : Announcement) (asb bsb : List ℕ) → Performed t s ab a asb → Performed u s bb b bsb → ab ≢ bb
-    → countedOnBoth (rowsOf asb) (rowsOf bsb) (s .seats) ≤ 2 * s .minima .margin + 1
+LooserBound calls = (p q : PerformedIn calls) → p .state ≡ q .state → p .bytes ≢ q .bytes
+    → countedOnBoth (rowsOf (p .sheet)) (rowsOf (q .sheet)) (p .state .seats) ≤ 2 * p .state .minima .margin + 1
 
 -- The starts are lawful, all four calls are answered 0, exactly 2m+1 seats count on both sheets, the looser bound holds, and Agreement does not.
 pub record BeyondByOne (m : ℕ) : Type 0 where
   pub park : Park (first m) (divided m)
-  pub performed : map answer (moments (divided m)) ≡ replicate 4 (some 0)
+  pub performed : map answer (moments (divided m)) ≡ replicate 4 accepted
   pub double-voters : countedOnBoth (rowsOf (fullSheet m)) (rowsOf (fullSheet m)) (firstState m .seats) ≡ 2 * m + 1
   pub looser-bound : LooserBound (divided m)
   pub splits : ¬ Agreement (divided m)

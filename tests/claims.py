@@ -1,6 +1,7 @@
 """Each claim that docs/PROVED.md names is stated in the file named there and has its theorem in that crate's proofs.
 
-A claim is a capitalised name in the column 'stated in'. 'there' stands for the file of the row above."""
+A claim is a capitalised name in a line '- Where: FILE: NAMES; proof ..', or in the column 'stated in' of a table, where 'there' stands for
+the file of the row above."""
 
 import pathlib
 import re
@@ -17,18 +18,25 @@ def read(path):
     return file.read_text(encoding="utf-8") if file.exists() else ""
 
 
+def places():
+    """What the chapter of claims says about where they are stated."""
+    chapter = read("docs/PROVED.md").split("## The claims")[1].split("\n## ")[0]
+    for line in chapter.splitlines():
+        cells = line.split(" | ")
+        if line.startswith("- Where: "):
+            yield line.split("; ")[0]
+        elif len(cells) == 4:
+            yield cells[2]
+
+
 def stated():
-    """The claims of the table: each with its file in specs/ and its crate."""
-    table = read("docs/PROVED.md").split("## The claims")[1].split("\n## ")[0]
+    """The claims of the chapter: each with its file in specs/ and its crate."""
     page = crate = None
-    for row in table.splitlines():
-        cells = row.split(" | ")
-        if len(cells) != 4:
-            continue
-        named = PAGE.search(cells[2])
+    for place in places():
+        named = PAGE.search(place)
         if named:
             page, crate = named.groups()
-        for claim in CLAIM.findall(cells[2]):
+        for claim in CLAIM.findall(place):
             yield claim, page, crate
 
 

@@ -99,7 +99,7 @@ restarted =
     let h = byValue 0 in
     startAt h ∷ asked h 120 ∷ startAt h ∷ asked h 121 ∷ performed h 121 ∷ startAt h ∷ performed h 120 ∷ []
 
--- No host is started again, but two hosts are started at one seat and life: "no seat and life is started twice with a vote in between" is not enough.
+-- No host is started again, but two hosts are started at one seat and life: that no seat and life is started twice with a vote in between is not enough.
 abbrev pub twoHosts : History
 twoHosts =
     let g = byValue 0 in

@@ -18,12 +18,14 @@ two-requires : tie.Need-two-requires
 two-requires c κs = search needs
 
 returns : tie.Need-returns
-returns c = omega (
-  arith,
-  c .two .ensures,
-  number-at 1 (c .before .before .before .before .args .at)
-      (now (c .before .before .before .before .args .s)),
-)
+returns c =
+    let a = c .before .before .before .before .args in
+    omega (
+      arith,
+      c .two .ensures,
+      number-at 1 (a .at)
+          (now (a .s)),
+    )
 
 pub u16-at-spec : {M : Type 1} → statement M
 u16-at-spec =

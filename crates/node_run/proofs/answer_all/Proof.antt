@@ -53,14 +53,19 @@ loop-again c =
 
 flush-requires : tie.Need-flush-requires Inv-loop μ-loop
 flush-requires c κs =
-    let v = c .before .before .before .before .loop .inv .1 .1 .0 in
+    let l = c .before .before .before .before in
+    let v = l .loop .inv .1 .1 .0 in
     omega (arith, v .1 .1)
 
 same-length : tie.Need-same-length Inv-loop μ-loop
-same-length c = c .before .before .before .before .before .loop .inv .0
+same-length c =
+    let l = c .before .before .before .before .before in
+    l .loop .inv .0
 
 same-length-2 : tie.Need-same-length-2 Inv-loop μ-loop
-same-length-2 c = c .before .before .before .before .before .loop .inv .1 .0
+same-length-2 c =
+    let l = c .before .before .before .before .before in
+    l .loop .inv .1 .0
 
 returns : tie.Need-returns Inv-loop μ-loop
 returns c =

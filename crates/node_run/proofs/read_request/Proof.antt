@@ -42,10 +42,11 @@ same-length c = omega arith
 
 returns : tie.Need-returns Inv-loop μ-loop
 returns c =
+    let filled = c .before .before .before in
     let t = c .before .before .before .before .before in
     let s = t .before .before .before .before .before .before in
     let l = t .before .before .before .before .loop in
-    let m = c .before .before .before .read-more in
+    let m = filled .read-more in
     let bytes : Bytes (m .last .0) = λ i. omega (arith, c .before .slice-known2 .given i) in
     let short = sym (rw sub-zero at (t .before .holds-request .ensures)) ∙ not-true _ (t .if1 .taken) in
     let kept = shorter-front _ _ _ _ (l .inv .1 .0) (m .ensures .1 .1) ∙ l .inv .1 .1 .1 in
@@ -63,18 +64,22 @@ loop-less c = omega arith
 
 loop-again : tie.Need-loop-again Inv-loop μ-loop
 loop-again c =
+    let filled = c .before .before .before in
     let t = c .before .before .before .before .before in
     let l = t .before .before .before .before .loop in
-    let m = c .before .before .before .read-more in
+    let m = filled .read-more in
     let kept = shorter-front _ _ _ _ (l .inv .1 .0) (m .ensures .1 .1) ∙ l .inv .1 .1 .1 in
     (omega arith, (omega arith, (omega arith, kept)))
 
 same-length-2 : tie.Need-same-length-2 Inv-loop μ-loop
-same-length-2 c = c .before .before .before .before .loop .inv .0
+same-length-2 c =
+    let l = c .before .before .before .before in
+    l .loop .inv .0
 
 returns-2 : tie.Need-returns-2 Inv-loop μ-loop
 returns-2 c =
-    let v = c .before .before .before .before .loop .inv in
+    let l = c .before .before .before .before in
+    let v = l .loop .inv in
     record {
       further = v .1 .0;
       fits = v .1 .1 .0;

@@ -18,7 +18,8 @@ same-length-2 c = search needs
 
 returns : tie.Need-returns
 returns c =
-    let n = c .before .before .before .next-request in
+    let asked = c .before .before .before in
+    let n = asked .next-request in
     Turned.fails (n .result) (n .ensures) (c .if1 .taken) refl refl
 
 same-length-3 : tie.Need-same-length-3
@@ -29,7 +30,8 @@ same-length-4 c = search needs
 
 returns-2 : tie.Need-returns-2
 returns-2 c =
-    let n = c .before .before .before .before .before .next-request in
+    let asked = c .before .before .before .before .before in
+    let n = asked .next-request in
     Turned.stops (n .result) (n .ensures) (c .if2 .taken) refl refl
 
 answer-requires : tie.Need-answer-requires

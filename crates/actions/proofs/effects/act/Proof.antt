@@ -84,11 +84,15 @@ returns c = rw (c .before .before .action .given .1) (c .propose .ensures)
 
 returns-2 : tie.Need-returns-2
 unfolding act useProposal effect
-returns-2 c = rw (c .before .before .action2 .given .1) (c .cancel .ensures (c .before .before .before .before .args .d))
+returns-2 c =
+    let a = c .before .before .before .before .args in
+    rw (c .before .before .action2 .given .1) (c .cancel .ensures (a .d))
 
 returns-3 : tie.Need-returns-3
 unfolding act useProposal effect
-returns-3 c = rw (c .before .before .before .action3 .given .1, ← c .before .given-standing .ensures) (c .with-standing .ensures)
+returns-3 c =
+    let told = c .before .before .before in
+    rw (told .action3 .given .1, ← c .before .given-standing .ensures) (c .with-standing .ensures)
 
 returns-4 : tie.Need-returns-4
 unfolding act effect
@@ -117,11 +121,15 @@ returns-7 c = rw (c .before .before .action7 .given .1) (c .with-life .ensures)
 
 returns-8 : tie.Need-returns-8
 unfolding act useProposal effect
-returns-8 c = rw (c .before .before .action8 .given .1) (c .grant .ensures (c .before .before .before .before .args .d))
+returns-8 c =
+    let a = c .before .before .before .before .args in
+    rw (c .before .before .action8 .given .1) (c .grant .ensures (a .d))
 
 returns-9 : tie.Need-returns-9
 unfolding act useProposal effect
-returns-9 c = rw (c .before .before .action9 .given .1) (c .end .ensures (c .before .before .before .before .args .d))
+returns-9 c =
+    let a = c .before .before .before .before .args in
+    rw (c .before .before .action9 .given .1) (c .end .ensures (a .d))
 
 pub act-spec : {M : Type 1} → statement M
 act-spec =

@@ -39,16 +39,18 @@ loop-less c = search needs
 
 loop-again : tie.Need-loop-again Inv-loop μ-loop
 loop-again c =
+    let turn = c .before .before .before in
     let l = c .before .before .before .before in
     let step = all-row seat seatCount (now (l .before .before .args .table)) (l .loop .i) freeSeat isWellFormedSeat _
-    (c .before .before .before .loop-test .taken) (c .before .before .seat-at .ensures) _ (c .before .is-well-formed .ensures) (c .if1 .taken) in
+    (turn .loop-test .taken) (c .before .before .seat-at .ensures) _ (c .before .is-well-formed .ensures) (c .if1 .taken) in
     l .loop .inv ∙ step
 
 returns : tie.Need-returns Inv-loop μ-loop
 returns c =
+    let turn = c .before .before .before in
     let l = c .before .before .before .before in
     let step = not-row seat seatCount (now (l .before .before .args .table)) (l .loop .i) freeSeat isWellFormedSeat _
-    (c .before .before .before .loop-test .taken) (c .before .before .seat-at .ensures) _ (c .before .is-well-formed .ensures) (c .if1 .left) in
+    (turn .loop-test .taken) (c .before .before .seat-at .ensures) _ (c .before .is-well-formed .ensures) (c .if1 .left) in
     sym (l .loop .inv ∙ step)
 
 returns-2 : tie.Need-returns-2 Inv-loop μ-loop

@@ -42,16 +42,18 @@ loop-less c = search needs
 
 loop-again : tie.Need-loop-again Inv-loop μ-loop
 loop-again c =
+    let turn = c .before .before .before in
     let l = c .before .before .before .before in
     let step = all-row proposal proposalRows (now (l .before .before .args .table)) (l .loop .i) noProposal (isSpare isProposal isBlankProposal) _
-    (c .before .before .before .loop-test .taken) (c .before .before .proposal-at .ensures) _ (c .before .is-zero .ensures) (c .if1 .taken) in
+    (turn .loop-test .taken) (c .before .before .proposal-at .ensures) _ (c .before .is-zero .ensures) (c .if1 .taken) in
     (search needs, l .loop .inv .1 ∙ step)
 
 returns : tie.Need-returns Inv-loop μ-loop
 returns c =
+    let turn = c .before .before .before in
     let l = c .before .before .before .before in
     let step = not-row proposal proposalRows (now (l .before .before .args .table)) (l .loop .i) noProposal (isSpare isProposal isBlankProposal) _
-    (c .before .before .before .loop-test .taken) (c .before .before .proposal-at .ensures) _ (c .before .is-zero .ensures) (c .if1 .left) in
+    (turn .loop-test .taken) (c .before .before .proposal-at .ensures) _ (c .before .is-zero .ensures) (c .if1 .left) in
     sym (l .loop .inv .1 ∙ step)
 
 returns-2 : tie.Need-returns-2 Inv-loop μ-loop

@@ -45,9 +45,10 @@ loop-less c = search needs
 
 loop-again : tie.Need-loop-again Inv-loop μ-loop
 loop-again c =
+    let turn = c .before .before .before in
     let l = c .before .before .before .before in
     let b = now (l .before .before .args .table) in
-    let h = c .before .before .before .loop-test .taken in
+    let h = turn .loop-test .taken in
     let k : l .loop .i < length (decodeRows seat seatCount b) = rw (length-decodeRows seat seatCount) h in
     let t = row-test seat seatCount b (l .loop .i) freeSeat isPresent _ _ h (c .before .before .seat-at .ensures) (c .before .is-present .ensures) in
     ⊎-elim (λ w. omega (arith, count-pass isPresent (decodeRows seat seatCount b) (l .loop .i) freeSeat k (t ∙ w .0 .taken)))
@@ -56,7 +57,8 @@ loop-again c =
 returns : tie.Need-returns Inv-loop μ-loop
 unfolding presentSeats
 returns c =
-    let b = now (c .before .before .before .args .table) in
+    let a = c .before .before .before .args in
+    let b = now (a .table) in
     let k : length (decodeRows seat seatCount b) ≤ c .before .loop .i = rw (length-decodeRows seat seatCount) (c .loop-test .left) in
     (omega (arith, count-end isPresent (decodeRows seat seatCount b) (c .before .loop .i) k), omega arith)
 

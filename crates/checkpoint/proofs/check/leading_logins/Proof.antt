@@ -48,18 +48,22 @@ loop-less c = search needs
 
 loop-again : tie.Need-loop-again Inv-loop μ-loop
 loop-again c =
+    let row = c .before .before .before in
+    let turn = row .before in
     let l = c .before .before .before .before .before in
     let b = now (l .before .before .args .table) in
-    let step = lead-row login loginRows b (l .loop .i) noLogin (isFilled isLogin hasRights) _ (c .before .before .before .before .loop-test .taken)
-    (c .before .before .before .login-at .ensures) (λ r. r .login) (l .loop .lo) in
+    let step = lead-row login loginRows b (l .loop .i) noLogin (isFilled isLogin hasRights) _ (turn .loop-test .taken)
+    (row .login-at .ensures) (λ r. r .login) (l .loop .lo) in
     (omega arith, (search needs, omega (arith, step (rw (c .before .is-granted .ensures) at (c .if1 .taken)))))
 
 returns : tie.Need-returns Inv-loop μ-loop
 returns c =
+    let row = c .before .before .before in
+    let turn = row .before in
     let l = c .before .before .before .before .before in
     let b = now (l .before .before .args .table) in
-    let step = last-row login loginRows b (l .loop .i) noLogin (isFilled isLogin hasRights) _ (c .before .before .before .before .loop-test .taken)
-    (c .before .before .before .login-at .ensures) (λ r. r .login) (l .loop .lo) in
+    let step = last-row login loginRows b (l .loop .i) noLogin (isFilled isLogin hasRights) _ (turn .loop-test .taken)
+    (row .login-at .ensures) (λ r. r .login) (l .loop .lo) in
     (omega (arith, step (rw (c .before .is-granted .ensures) at (c .if1 .left))), omega arith)
 
 returns-2 : tie.Need-returns-2 Inv-loop μ-loop

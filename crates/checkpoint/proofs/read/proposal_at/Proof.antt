@@ -25,13 +25,15 @@ u64-at-requires : tie.Need-u64-at-requires
 u64-at-requires c κs = search needs
 
 returns : tie.Need-returns
-returns c = simp (
-  drop-drop,
-  c .before .before .before .u32-at .ensures,
-  c .before .before .u32-at2 .ensures,
-  c .before .u16-at .ensures,
-  c .u64-at .ensures,
-)
+returns c =
+    let read = c .before .before .before in
+    simp (
+      drop-drop,
+      read .u32-at .ensures,
+      c .before .before .u32-at2 .ensures,
+      c .before .u16-at .ensures,
+      c .u64-at .ensures,
+    )
 
 pub proposal-at-spec : {M : Type 1} → statement M
 proposal-at-spec =

@@ -50,7 +50,9 @@ same-length : tie.Need-same-length Inv-loop μ-loop
 same-length c = c .before .loop .inv .same-length
 
 returns : tie.Need-returns Inv-loop μ-loop
-returns c = written-all proposal proposalRows (c .before .before .before .args .t3) _ _ _ _ (c .before .loop .inv) (search needs) (omega arith)
+returns c =
+    let a = c .before .before .before .args in
+    written-all proposal proposalRows (a .t3) _ _ _ _ (c .before .loop .inv) (search needs) (omega arith)
 
 pub put-proposals-spec : {M : Type 1} → statement M
 put-proposals-spec =

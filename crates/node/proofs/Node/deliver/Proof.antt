@@ -20,7 +20,9 @@ refuse-delivery-requires c κs = search needs
 
 returns : tie.Need-returns
 unfolding deliverOf
-returns c = rw (← c .before .before .before .read-announcement .ensures, c .before .enum-told .given .1) (c .refuse-delivery .ensures)
+returns c =
+    let read = c .before .before .before in
+    rw (← read .read-announcement .ensures, c .before .enum-told .given .1) (c .refuse-delivery .ensures)
 
 is-sheet-requires : tie.Need-is-sheet-requires
 is-sheet-requires c κs = search needs

@@ -21,7 +21,9 @@ reply-to-query-requires c κs = λ h. absurd (let l = adds-from 1 h in omega ari
 
 returns : tie.Need-returns
 unfolding queryOf
-returns c = rw (← c .before .before .before .read-query .ensures, c .before .enum-told .given .1) (c .reply-to-query .ensures)
+returns c =
+    let read = c .before .before .before in
+    rw (← read .read-query .ensures, c .before .enum-told .given .1) (c .reply-to-query .ensures)
 
 query-refusal-requires : tie.Need-query-refusal-requires
 query-refusal-requires c κs = search needs

@@ -22,7 +22,9 @@ refuse-start-requires c κs = search needs
 
 returns : tie.Need-returns
 unfolding startOf
-returns c = rw (← c .before .before .before .read-start .ensures, c .before .enum-told .given .1) (c .refuse-start .ensures)
+returns c =
+    let read = c .before .before .before in
+    rw (← read .read-start .ensures, c .before .enum-told .given .1) (c .refuse-start .ensures)
 
 is-checkpoint-requires : tie.Need-is-checkpoint-requires
 is-checkpoint-requires c κs = search needs

@@ -29,9 +29,10 @@ same-length c = search needs
 
 returns : tie.Need-returns
 returns c =
+    let branch = c .before .before .before .before in
     let w = c .before .before .before .before .before in (
       w .before .try-room .ensures,
-      rw (sym (w .writes-image .ensures) ∙ c .before .before .before .before .if1 .taken)
+      rw (sym (w .writes-image .ensures) ∙ branch .if1 .taken)
           (c .before .before .put-image .ensures),
     )
 

@@ -18,7 +18,8 @@ same-length c = search needs
 returns-2 : tie.Need-returns-2
 unfolding return
 returns-2 c =
-    let e = c .before .before .before .before .if1 .left in
+    let branch = c .before .before .before .before in
+    let e = branch .if1 .left in
     (rw (le-leb imageSize _ e), rw (le-leb imageSize _ e) (c .before .before .write-image .ensures))
 
 pub hand-out-spec : {M : Type 1} → statement M

@@ -1,9 +1,12 @@
 use mathlib.Core.Path.{_≡_, sym, _∙_}
 use mathlib.Core.Bool.{true}
+use Prim.Native.Nat.{ℕ}
+use mathlib.Core.List.{List}
 use lib.ListN.{length}
 use native.Mathlib.Omega.{arith}
 use denote.Ref.{now}
 use Rattle.binary.specs.Number.{isFramed}
+use Rattle.records.specs.Layout.{announcementLength, announcementSize}
 use Rattle.records.specs.Announcement.{readAnnouncement}
 use Rattle.binary.proofs.Frames.{framed-length}
 use borrow.Author.Needs.{needs}
@@ -11,11 +14,14 @@ use Rattle.records.proofs.announcements.read_announcement.Statement.{st
 use Rattle.records.proofs.announcements.read_announcement.Tie as tie
 
 -- past the test the bytes are one such record
-framed : (c : tie.Then1) → isFramed 22 (now (c .before .before .before .args .b)) ≡ true
+abbrev bytes : tie.Then1 → List ℕ
+bytes c = now (c .before .before .before .args .b)
+
+framed : (c : tie.Then1) → isFramed announcementLength (bytes c) ≡ true
 framed c = sym (c .before .is-framed .ensures) ∙ c .if1 .taken
 
-long : (c : tie.Then1) → length (now (c .before .before .before .args .b)) ≡ 24
-long c = framed-length 22 (now (c .before .before .before .args .b)) (framed c)
+long : (c : tie.Then1) → length (bytes c) ≡ announcementSize
+long c = framed-length announcementLength (bytes c) (framed c)
 
 is-framed-requires : tie.Need-is-framed-requires
 is-framed-requires c κs = search needs

@@ -20,12 +20,15 @@ announcing-requires c κs = search needs
 
 returns : tie.Need-returns
 unfolding readGrant
-returns c = rw (
-  ← c .before .before .before .before .u32-at .ensures,
-  ← c .before .before .before .u32-at2 .ensures,
-  ← c .before .before .u16-at .ensures,
-  ← c .before .is-zero-from .ensures,
-) (c .announcing .ensures)
+returns c =
+    let read = c .before .before .before in
+    let taken = read .before in
+    rw (
+      ← taken .u32-at .ensures,
+      ← read .u32-at2 .ensures,
+      ← c .before .before .u16-at .ensures,
+      ← c .before .is-zero-from .ensures,
+    ) (c .announcing .ensures)
 
 pub read-grant-spec : {M : Type 1} → statement M
 read-grant-spec =

@@ -39,12 +39,15 @@ is-record-requires c κs = search needs
 
 are-rows-requires : tie.Need-are-rows-requires
 are-rows-requires c κs =
-    let b = now (c .before .before .before .before .before .before .args .b) in
+    let a = c .before .before .before .before .before .before .args in
+    let b = now (a .b) in
     omega (arith, record-length (5 + 5 * byteAt 6 b) 18 b (sym (c .before .is-record .ensures) ∙ c .if3 .taken))
 
 returns-3 : tie.Need-returns-3
 unfolding isSheet
-returns-3 c = rw (le-leb _ _ (c .before .before .before .if2 .left), sym (c .before .before .is-record .ensures) ∙ c .before .if3 .taken)
+returns-3 c =
+    let branch = c .before .before .before in
+    rw (le-leb _ _ (branch .if2 .left), sym (c .before .before .is-record .ensures) ∙ c .before .if3 .taken)
     (c .are-rows .ensures)
 
 returns-4 : tie.Need-returns-4

@@ -1,10 +1,13 @@
 use mathlib.Core.Path.{_≡_, sym, _∙_}
 use mathlib.Core.Bool.{true}
+use Prim.Native.Nat.{ℕ, _+_}
+use mathlib.Core.List.{List}
 use lib.ListN.{length}
 use native.Mathlib.Omega.{arith}
 use borrow.Author.Tests.{lt-ltb, le-ltb, not-true, not-false}
 use denote.Ref.{now}
 use Rattle.binary.specs.Number.{isRecord}
+use Rattle.records.specs.Layout.{queryLength, kindQuery}
 use Rattle.records.specs.StartQuery.{readQuery}
 use Rattle.binary.proofs.Frames.{record-length}
 use borrow.Author.Needs.{needs}
@@ -12,11 +15,14 @@ use Rattle.records.proofs.start_query.read_query.Statement.{statement}
 use Rattle.records.proofs.start_query.read_query.Tie as tie
 
 -- past the first test the bytes are one such record
-framed : (c : tie.Else1) → isRecord 11 20 (now (c .before .before .before .args .b)) ≡ true
+abbrev bytes : tie.Else1 → List ℕ
+bytes c = now (c .before .before .before .args .b)
+
+framed : (c : tie.Else1) → isRecord queryLength kindQuery (bytes c) ≡ true
 framed c = sym (c .before .is-record .ensures) ∙ not-false _ (c .if1 .left)
 
-long : (c : tie.Else1) → length (now (c .before .before .before .args .b)) ≡ 13
-long c = record-length 11 20 (now (c .before .before .before .args .b)) (framed c)
+long : (c : tie.Else1) → length (bytes c) ≡ queryLength + 2
+long c = record-length queryLength kindQuery (bytes c) (framed c)
 
 is-record-requires : tie.Need-is-record-requires
 is-record-requires c κs = search needs

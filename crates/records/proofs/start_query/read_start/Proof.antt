@@ -1,10 +1,13 @@
 use mathlib.Core.Path.{_≡_, sym, _∙_}
 use mathlib.Core.Bool.{true}
+use Prim.Native.Nat.{ℕ, _+_}
+use mathlib.Core.List.{List}
 use lib.ListN.{length}
 use native.Mathlib.Omega.{arith}
 use borrow.Author.Tests.{lt-ltb, le-ltb, not-true, not-false}
 use denote.Ref.{now}
 use Rattle.binary.specs.Number.{isRecord}
+use Rattle.records.specs.Layout.{startLength, kindStart}
 use Rattle.records.specs.StartQuery.{readStart}
 use Rattle.binary.proofs.Frames.{record-length}
 use borrow.Author.Needs.{needs}
@@ -12,11 +15,14 @@ use Rattle.records.proofs.start_query.read_start.Statement.{statement}
 use Rattle.records.proofs.start_query.read_start.Tie as tie
 
 -- past the first test the bytes are one such record
-framed : (c : tie.Else1) → isRecord 7 19 (now (c .before .before .before .args .b)) ≡ true
+abbrev bytes : tie.Else1 → List ℕ
+bytes c = now (c .before .before .before .args .b)
+
+framed : (c : tie.Else1) → isRecord startLength kindStart (bytes c) ≡ true
 framed c = sym (c .before .is-record .ensures) ∙ not-false _ (c .if1 .left)
 
-long : (c : tie.Else1) → length (now (c .before .before .before .args .b)) ≡ 9
-long c = record-length 7 19 (now (c .before .before .before .args .b)) (framed c)
+long : (c : tie.Else1) → length (bytes c) ≡ startLength + 2
+long c = record-length startLength kindStart (bytes c) (framed c)
 
 is-record-requires : tie.Need-is-record-requires
 is-record-requires c κs = search needs

@@ -21,17 +21,19 @@ least-size-requires c κs = search needs
 returns : tie.Need-returns
 unfolding frameOf
 returns c =
+    let sized = c .before .before .before in
     let b = c .before .before .before .before in
     let held = sym (b .before .holds-record .ensures) ∙ b .if1 .taken in
-    rw (held, sym (c .before .before .before .size-of .ensures), sym (c .before .before .u16-at .ensures), sym (c .before .least-size .ensures))
+    rw (held, sym (sized .size-of .ensures), sym (c .before .before .u16-at .ensures), sym (c .before .least-size .ensures))
     (search cases)
 
 returns-2 : tie.Need-returns-2
 unfolding frameOf
 returns-2 c =
+    let sized = c .before .before .before in
     let b = c .before .before .before .before in
     let held = sym (b .before .holds-record .ensures) ∙ b .if1 .taken in
-    rw (held, sym (c .before .before .before .size-of .ensures), sym (c .before .before .u16-at .ensures), sym (c .before .least-size .ensures))
+    rw (held, sym (sized .size-of .ensures), sym (c .before .before .u16-at .ensures), sym (c .before .least-size .ensures))
     (search cases)
 
 returns-3 : tie.Need-returns-3

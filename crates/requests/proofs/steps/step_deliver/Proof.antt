@@ -33,7 +33,9 @@ cut-requires c κs = search needs
 
 returns : tie.Need-returns
 unfolding stepDeliver
-returns c = rw (c .cut .ensures, sym (rw part-from at (c .before .before .before .frame .ensures)) ∙ c .before .enum-told .given .1) refl
+returns c =
+    let framed = c .before .before .before in
+    rw (c .cut .ensures, sym (rw part-from at (framed .frame .ensures)) ∙ c .before .enum-told .given .1) refl
 
 cut-requires-2 : tie.Need-cut-requires-2
 cut-requires-2 c κs = search needs
@@ -81,10 +83,11 @@ add-t12 c =
 returns-3 : tie.Need-returns-3
 unfolding stepDeliver
 returns-3 c =
+    let branch = c .before .before .before .before .before in
     let e = rw (sub-zero, sub-zero, part-from) at (c .before .before .deliver .ensures) in
     let b = c .before .before .before .before .before .before .before in
     let second = sym (rw part-from at (b .before .before .frame .ensures)) ∙ b .second .given .1 in
-    rw (second, eq-eqb _ _ (c .before .before .before .before .before .if1 .left), ← e, ← c .deliver-answer .ensures) refl
+    rw (second, eq-eqb _ _ (branch .if1 .left), ← e, ← c .deliver-answer .ensures) refl
 
 pub step-deliver-spec : {M : Type 1} → statement M
 step-deliver-spec =

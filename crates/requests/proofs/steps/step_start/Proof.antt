@@ -33,7 +33,9 @@ cut-requires c κs = search needs
 
 returns : tie.Need-returns
 unfolding stepStart
-returns c = rw (c .cut .ensures, sym (rw part-from at (c .before .before .before .frame .ensures)) ∙ c .before .enum-told .given .1) refl
+returns c =
+    let framed = c .before .before .before in
+    rw (c .cut .ensures, sym (rw part-from at (framed .frame .ensures)) ∙ c .before .enum-told .given .1) refl
 
 cut-requires-2 : tie.Need-cut-requires-2
 cut-requires-2 c κs = search needs
@@ -51,7 +53,9 @@ part-start-start : tie.Need-part-start-start
 part-start-start c = search needs
 
 part-start-end : tie.Need-part-start-end
-part-start-end c = frame-fits _ _ _ (sym (c .before .before .before .before .frame .ensures) ∙ c .before .before .second .given .1)
+part-start-end c =
+    let framed = c .before .before .before .before in
+    frame-fits _ _ _ (sym (framed .frame .ensures) ∙ c .before .before .second .given .1)
 
 sub-start-2 : tie.Need-sub-start-2
 sub-start-2 c = search needs
@@ -79,10 +83,11 @@ after-start-requires c κs = search needs
 returns-3 : tie.Need-returns-3
 unfolding stepStart
 returns-3 c =
+    let branch = c .before .before .before .before in
     let e = rw (sub-zero, sub-zero, part-from) at (c .before .start .ensures) in
     let b = c .before .before .before .before .before .before in
     let second = sym (rw part-from at (b .before .before .frame .ensures)) ∙ b .second .given .1 in
-    rw (second, eq-eqb _ _ (c .before .before .before .before .if1 .left), ← e) (c .after-start .ensures)
+    rw (second, eq-eqb _ _ (branch .if1 .left), ← e) (c .after-start .ensures)
 
 pub step-start-spec : {M : Type 1} → statement M
 step-start-spec =

@@ -20,10 +20,14 @@ cut-requires c κs = search needs
 
 returns : tie.Need-returns
 unfolding stepOf
-returns c = rw (c .cut .ensures, sym (c .before .before .before .frame .ensures) ∙ c .before .enum-told .given .1) refl
+returns c =
+    let framed = c .before .before .before in
+    rw (c .cut .ensures, sym (framed .frame .ensures) ∙ c .before .enum-told .given .1) refl
 
 step-start-requires : tie.Need-step-start-requires
-step-start-requires c κs = frame-fits _ _ _ (sym (c .before .before .before .before .frame .ensures) ∙ c .before .before .front .given .1)
+step-start-requires c κs =
+    let framed = c .before .before .before .before in
+    frame-fits _ _ _ (sym (framed .frame .ensures) ∙ c .before .before .front .given .1)
 
 returns-2 : tie.Need-returns-2
 unfolding stepOf
@@ -41,10 +45,11 @@ cut-requires-2 c κs = search needs
 returns-3 : tie.Need-returns-3
 unfolding stepOf
 returns-3 c =
+    let branch = c .before .before .before in
     let b = c .before .before .before .before .before in
     let front = sym (b .before .before .frame .ensures) ∙ b .front .given .1 in
     let none = sym (c .before .before .is-none .ensures) ∙ c .before .if2 .taken in
-    rw (front, ne-eqb _ _ (c .before .before .before .if1 .left), none, c .cut2 .ensures) refl
+    rw (front, ne-eqb _ _ (branch .if1 .left), none, c .cut2 .ensures) refl
 
 step-query-requires : tie.Need-step-query-requires
 step-query-requires c κs =
@@ -54,10 +59,12 @@ step-query-requires c κs =
 returns-4 : tie.Need-returns-4
 unfolding stepOf
 returns-4 c =
+    let tested = c .before .before .before in
+    let branch = tested .before in
     let b = c .before .before .before .before .before .before in
     let front = sym (b .before .before .frame .ensures) ∙ b .front .given .1 in
-    let some = sym (c .before .before .before .is-none .ensures) ∙ c .before .before .if2 .left in
-    rw (front, ne-eqb _ _ (c .before .before .before .before .if1 .left), some, eq-eqb _ _ (c .before .if3 .taken), c .step-query .ensures) refl
+    let some = sym (tested .is-none .ensures) ∙ c .before .before .if2 .left in
+    rw (front, ne-eqb _ _ (branch .if1 .left), some, eq-eqb _ _ (c .before .if3 .taken), c .step-query .ensures) refl
 
 is-announcement-requires : tie.Need-is-announcement-requires
 is-announcement-requires c κs = search needs

@@ -83,6 +83,7 @@ impl Checker {
             sweep::as_vote(call, number, each)?;
         }
         sweep::as_image(call, number, each)?;
+        sweep::in_other_calls(call, number, each)?;
         let swept = &mut swept[call.sort as usize];
         if number != 1 && number != 2 && !*swept {
             *swept = true;

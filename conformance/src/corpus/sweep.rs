@@ -157,6 +157,16 @@ pub fn as_image(call: &Call, number: u32, each: Each) -> Swept {
     image_in_calls(&image, false, each)
 }
 
+/// The malformed image of a checkpoint call in the other calls that take one.
+pub fn in_other_calls(call: &Call, number: u32, each: Each) -> Swept {
+    match (call.sort, number) {
+        (Sort::Checkpoint, 1) if call.slices[0].len() == IMAGE_SIZE => {
+            image_in_calls(&call.slices[0], false, each)
+        }
+        _ => Ok(()),
+    }
+}
+
 /// An image in each call that takes one.
 fn image_in_calls(image: &[u8], is_good: bool, each: Each) -> Swept {
     let checkpoint = Call {

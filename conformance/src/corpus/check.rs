@@ -1,5 +1,6 @@
 //! A file's requests through all three, and what is derived from them through both that are called.
 
+use super::answer::Answer;
 use super::call::{second_run, Call, Sort, ARCHIVE, SECOND};
 use super::file::{By, Request, Run};
 use super::make::{Desk, Made, Slices};
@@ -14,6 +15,8 @@ pub struct Checker {
     pub desk: Desk,
     pub node_run: PathBuf,
     pub reached: Reached,
+    /// The answers of calls for which the lengths of all slices were swept: each once.
+    swept: Vec<(Sort, Answer)>,
 }
 
 impl Checker {
@@ -22,16 +25,15 @@ impl Checker {
             desk: Desk::new()?,
             node_run,
             reached: Reached::default(),
+            swept: Vec::new(),
         })
     }
 
     pub fn file(&mut self, runs: &[Run]) -> Result<Counts, Found> {
         let mut counts = Counts::default();
-        // The calls whose ends were swept: each once in a file.
-        let mut swept = [false; 4];
         for run in runs {
             let each = &mut |request: &Request, call: &Call, room: usize| {
-                self.request(request, call, room, &mut swept)
+                self.request(request, call, room)
             };
             counts.add(walk(run, each)?);
             self.run(run)?;
@@ -45,7 +47,6 @@ impl Checker {
         request: &Request,
         call: &Call,
         room: usize,
-        swept: &mut [bool; 4],
     ) -> Result<Option<Vec<u8>>, String> {
         let (sort, answer) = (call.sort, request.answer);
         if !sort.answers().contains(&answer) {
@@ -55,7 +56,7 @@ impl Checker {
         let made = self.both(call, Slices { room, gap: 0 }, number)?;
         self.reached.note(sort, answer);
         if room == sort.room() {
-            self.derive(request, call, number, swept)?;
+            self.derive(request, call, number)?;
         }
         if sort == Sort::Checkpoint {
             return Ok(None);
@@ -66,13 +67,10 @@ impl Checker {
         Ok(made.written)
     }
 
-    fn derive(
-        &mut self,
-        request: &Request,
-        call: &Call,
-        number: u32,
-        swept: &mut [bool; 4],
-    ) -> Result<(), String> {
+    /// What follows from a request that has room.
+    fn derive(&mut self, request: &Request, call: &Call, number: u32) -> Result<(), String> {
+        let key = (call.sort, request.answer);
+        let first = !self.swept.contains(&key);
         let each = &mut |call: &Call, on: Slices, wanted: u32| {
             let made = self.both(call, on, wanted);
             made.map(drop).map_err(|what| derived(&what, call, on))
@@ -84,10 +82,14 @@ impl Checker {
         }
         sweep::as_image(call, number, each)?;
         sweep::in_other_calls(call, number, each)?;
-        let swept = &mut swept[call.sort as usize];
-        if number != 1 && number != 2 && !*swept {
-            *swept = true;
-            sweep::ends(call, number, each)?;
+        if first {
+            sweep::rooms(call, number, each)?;
+        }
+        if first && number != 1 && number != 2 {
+            sweep::slices(call, each)?;
+        }
+        if first {
+            self.swept.push(key);
         }
         Ok(())
     }

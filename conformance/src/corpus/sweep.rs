@@ -54,13 +54,19 @@ fn with_room(call: &Call, number: u32, room: usize) -> u32 {
     }
 }
 
-/// Output slices of every length, input slices of every shorter and some longer lengths, and other
-/// records in the place of each. Nothing of the call is malformed.
-pub fn ends(call: &Call, number: u32, each: Each) -> Swept {
+/// Output slices of every length.
+pub fn rooms(call: &Call, number: u32, each: Each) -> Swept {
     for room in 0..=LONGEST_ROOM {
-        let slices = Slices { room, gap: 0 };
-        each(call, slices, with_room(call, number, room))?;
+        let wanted = with_room(call, number, room);
+        each(call, Slices { room, gap: 0 }, wanted)?;
+        each(call, Slices { room, gap: GUARD }, wanted)?;
     }
+    Ok(())
+}
+
+/// Input slices of every shorter and some longer lengths, and other records in the place of each.
+/// Nothing of the call is malformed.
+pub fn slices(call: &Call, each: Each) -> Swept {
     for place in 0..call.slices.len() {
         lengths(call, place, each)?;
         misplaced(call, place, each)?;

@@ -71,10 +71,7 @@ impl Checker {
     fn derive(&mut self, request: &Request, call: &Call, number: u32) -> Result<(), String> {
         let key = (call.sort, request.answer);
         let first = !self.swept.contains(&key);
-        let each = &mut |call: &Call, on: Slices, wanted: u32| {
-            let made = self.both(call, on, wanted);
-            made.map(drop).map_err(|what| derived(&what, call, on))
-        };
+        let each = &mut |call: &Call, on: Slices, wanted: u32| self.derived(call, on, wanted);
         sweep::around(call, number, each)?;
         let held = request.items.len() == call.sort.records();
         if held {
@@ -96,16 +93,19 @@ impl Checker {
 
     /// An image that was written is taken by the next call.
     fn require_image(&mut self, image: &[u8]) -> Result<(), String> {
-        let call = Call {
-            sort: Sort::Checkpoint,
-            slices: vec![image.to_vec()],
-        };
-        let on = Slices {
-            room: Sort::Checkpoint.room(),
-            gap: 0,
-        };
-        let given = self.both(&call, on, 0);
-        given.map(drop).map_err(|what| derived(&what, &call, on))
+        sweep::image_in_calls(image, true, &mut |call, on, wanted| {
+            self.derived(call, on, wanted)
+        })
+    }
+
+    /// A call that no text has.
+    fn derived(&mut self, call: &Call, on: Slices, wanted: u32) -> Result<(), String> {
+        let made = self.both(call, on, wanted);
+        made.map(drop).map_err(|what| {
+            let sizes: Vec<usize> = call.slices.iter().map(Vec::len).collect();
+            let (sort, room) = (call.sort.name(), on.room);
+            format!("derived {sort}, slices of {sizes:?} bytes, output slice of {room}: {what}")
+        })
     }
 
     /// Both return the number, and write the same.
@@ -133,13 +133,6 @@ impl Checker {
         run.compare("node-run", &printed, &wanted)?;
         run.compare(SECOND.name, &second_run(&input), &wanted)
     }
-}
-
-/// A message about a call that no text has.
-fn derived(what: &str, call: &Call, on: Slices) -> String {
-    let sizes: Vec<usize> = call.slices.iter().map(Vec::len).collect();
-    let (sort, room) = (call.sort.name(), on.room);
-    format!("derived {sort}, slices of {sizes:?} bytes, output slice of {room}: {what}")
 }
 
 impl Run {

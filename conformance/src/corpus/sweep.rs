@@ -163,35 +163,51 @@ pub fn as_image(call: &Call, number: u32, each: Each) -> Swept {
     image_in_calls(&image, false, each)
 }
 
-/// The malformed image of a checkpoint call in the other calls that take one.
+/// The image of a checkpoint call in the other calls that take one.
 pub fn in_other_calls(call: &Call, number: u32, each: Each) -> Swept {
-    match (call.sort, number) {
-        (Sort::Checkpoint, 1) if call.slices[0].len() == IMAGE_SIZE => {
-            image_in_calls(&call.slices[0], false, each)
+    match call.sort {
+        Sort::Checkpoint if call.slices[0].len() == IMAGE_SIZE => {
+            image_in_calls(&call.slices[0], number != 1, each)
         }
         _ => Ok(()),
     }
 }
 
-/// An image in each call that takes one.
-fn image_in_calls(image: &[u8], is_good: bool, each: Each) -> Swept {
-    let checkpoint = Call {
-        sort: Sort::Checkpoint,
-        slices: vec![image.to_vec()],
+/// An image in each call that takes one: an announcement of cycle 0, which has passed in every
+/// state, and a query for login 0, which is never listed, on day 0, which is never after the agreed
+/// day.
+pub fn image_in_calls(image: &[u8], is_good: bool, each: Each) -> Swept {
+    let (deliver, query) = match is_good {
+        true => numbers_of(image),
+        false => (1, 1),
     };
-    around(&checkpoint, u32::from(!is_good), each)?;
-    if is_good {
-        return Ok(());
-    }
-    let records = RECORDS.map(|text| script::compose(text).unwrap_or_default());
-    let [_, announcement, sheet, query] = records;
-    for (sort, records) in [
-        (Sort::Deliver, vec![announcement, sheet]),
-        (Sort::Query, vec![query]),
+    let records = ASKED.map(|text| script::compose(text).unwrap_or_default());
+    let [announcement, sheet, login_0] = records;
+    for (sort, records, number) in [
+        (Sort::Checkpoint, vec![], u32::from(!is_good)),
+        (Sort::Deliver, vec![announcement, sheet], deliver),
+        (Sort::Query, vec![login_0], query),
     ] {
         if let Some(call) = Call::new(sort, Some(image), records) {
-            around(&call, 1, each)?;
+            around(&call, number, each)?;
         }
     }
     Ok(())
+}
+
+const ASKED: [&str; 3] = [
+    "announce cycle 0 day 101 end login 501",
+    "sheet level-1 0 level-2 rows",
+    "query login 0 day 0 right 0",
+];
+
+/// What a node answers to these: 3 where it is halted, 17 where it is locked, else 4 and 19.
+fn numbers_of(image: &[u8]) -> (u32, u32) {
+    let seat = usize::from(image[CHECKPOINT_SIZE]);
+    let standing = image[18 + 5 * seat];
+    match (standing, image[IMAGE_SIZE - 1]) {
+        (3, _) => (3, 3),
+        (_, 10) => (4, 17),
+        _ => (4, 19),
+    }
 }

@@ -61,8 +61,7 @@ impl Sort {
         good.iter().copied().chain(refusals).collect()
     }
 
-    /// The place of the sheet among the slices; a malformed one is answered by 2, and each other by
-    /// 1.
+    /// The number for a malformed slice: 2 for the sheet, 1 for each other.
     pub fn malformed(self, slice: usize) -> u32 {
         match (self, slice) {
             (Deliver, 2) => 2,
@@ -97,11 +96,14 @@ impl Call {
     }
 }
 
+/// Image, announcement, sheet and output slice.
+type OfThree = fn(&[u8], &[u8], &[u8], &mut [u8]) -> u32;
+
 /// One implementation of the four calls.
 pub struct Implementation {
     pub name: &'static str,
     start: fn(&[u8], &[u8], &mut [u8]) -> u32,
-    deliver: fn(&[u8], &[u8], &[u8], &mut [u8]) -> u32,
+    deliver: OfThree,
     query: fn(&[u8], &[u8], &mut [u8]) -> u32,
     checkpoint: fn(&[u8], &mut [u8]) -> u32,
 }

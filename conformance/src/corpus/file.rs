@@ -29,10 +29,12 @@ pub struct Run {
     pub requests: Vec<Request>,
 }
 
-/// What stands before the answer of a request in a file.
+/// What was read of a file.
 #[derive(Default)]
 struct Reader {
+    /// The runs that ended, and the one at hand.
     runs: Vec<Run>,
+    run: Run,
     names: HashMap<String, Chunk>,
     /// The name of the chunk at hand, where it is not a part of a request.
     naming: Option<String>,
@@ -46,17 +48,13 @@ const BELOW: [&str; 5] = ["seat", "proposal", "login", "own", "voted"];
 const CHANGES: [&str; 3] = ["at", "size", "each"];
 
 pub fn read(text: &str) -> Parse<Vec<Run>> {
-    let mut reader = Reader {
-        runs: vec![Run::default()],
-        ..Reader::default()
-    };
+    let mut reader = Reader::default();
     for (line, text) in (1..).zip(text.lines()) {
         reader.line(line, text.trim())?;
     }
     let last = text.lines().count();
     reader.close()?;
-    reader.require_answered(last)?;
-    reader.runs.retain(|run| !run.requests.is_empty());
+    reader.end_run(last)?;
     Ok(reader.runs)
 }
 
@@ -84,10 +82,7 @@ impl Reader {
     /// A line that is not below another one.
     fn begin(&mut self, line: usize, text: &str, words: &[&str]) -> Parse<()> {
         match words {
-            ["run"] => {
-                self.require_answered(line)?;
-                self.runs.push(Run::default());
-            }
+            ["run"] => self.end_run(line)?,
             ["call", sort, room @ ..] => {
                 self.require_answered(line)?;
                 self.call = Some((sort_named(line, sort)?, room_named(line, room)?));
@@ -118,6 +113,15 @@ impl Reader {
         Ok(())
     }
 
+    fn end_run(&mut self, line: usize) -> Parse<()> {
+        self.require_answered(line)?;
+        let run = std::mem::take(&mut self.run);
+        if !run.requests.is_empty() {
+            self.runs.push(run);
+        }
+        Ok(())
+    }
+
     fn require_answered(&self, line: usize) -> Parse<()> {
         match self.items.is_empty() && self.call.is_none() {
             true => Ok(()),
@@ -139,8 +143,7 @@ impl Reader {
             );
         };
         let items = std::mem::take(&mut self.items);
-        let requests = self.requests();
-        requests.push(Request {
+        self.run.requests.push(Request {
             line,
             by,
             items,
@@ -150,27 +153,18 @@ impl Reader {
     }
 
     /// `ORDINAL ANSWER CYCLE`, as node-run prints it.
-    fn by_run<'a, 'b>(&mut self, line: usize, words: &'a [&'b str]) -> Parse<(By, &'a [&'b str])> {
+    fn by_run<'a, 'b>(&self, line: usize, words: &'a [&'b str]) -> Parse<(By, &'a [&'b str])> {
         let [ordinal, answer @ .., cycle] = words else {
             return error(line, "an ordinal, an answer and a cycle are expected");
         };
         let ordinal = number(line, ordinal)?;
         let cycle = number(line, cycle)? as u32;
-        let before = self.requests().iter();
+        let before = self.run.requests.iter();
         let next = 1 + before.filter(|r| matches!(r.by, By::Run { .. })).count();
         match ordinal == next {
             true => Ok((By::Run { ordinal, cycle }, answer)),
             false => error(line, format!("the ordinal is {next}")),
         }
-    }
-
-    /// Those of the run at hand.
-    fn requests(&mut self) -> &mut Vec<Request> {
-        if self.runs.is_empty() {
-            self.runs.push(Run::default());
-        }
-        let last = self.runs.len() - 1;
-        &mut self.runs[last].requests
     }
 }
 

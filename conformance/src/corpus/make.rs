@@ -38,21 +38,30 @@ impl Desk {
     }
 
     pub fn make(&mut self, by: &Implementation, call: &Call, on: Slices) -> Result<Made, String> {
-        let [.., output] = &mut self.memories;
-        place(output, &vec![FILL; on.room], on.gap);
-        for (memory, slice) in self.memories.iter_mut().zip(&call.slices) {
-            place(memory, slice, on.gap);
-        }
+        self.place(call, on);
         let number = self.call(by, call, on);
         self.calls += 1;
-        for (memory, slice) in self.memories.iter().zip(&call.slices) {
-            require_kept(memory, slice, on.gap, "an input slice or a byte beside it")?;
-        }
+        self.require_inputs(call, on)?;
         let written = self.written(call, number, on)?;
         if let Some(written) = &written {
             written::check(call, number, written)?;
         }
         Ok(Made { number, written })
+    }
+
+    fn place(&mut self, call: &Call, on: Slices) {
+        let [inputs @ .., output] = &mut self.memories;
+        place(output, &vec![FILL; on.room], on.gap);
+        for (memory, slice) in inputs.iter_mut().zip(&call.slices) {
+            place(memory, slice, on.gap);
+        }
+    }
+
+    fn require_inputs(&self, call: &Call, on: Slices) -> Result<(), String> {
+        for (memory, slice) in self.memories.iter().zip(&call.slices) {
+            require_kept(memory, slice, on.gap, "an input slice or a byte beside it")?;
+        }
+        Ok(())
     }
 
     fn call(&mut self, by: &Implementation, call: &Call, on: Slices) -> u32 {

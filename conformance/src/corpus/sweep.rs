@@ -20,28 +20,37 @@ const LONGEST_SLICE: usize = 65536;
 pub fn around(call: &Call, number: u32, each: Each) -> Swept {
     with_rooms(call, number, each)?;
     for place in 0..call.slices.len() {
-        let malformed = call.sort.malformed(place);
-        // What is malformed already may be mended by a cut.
-        if number <= 2 && number != 0 && malformed <= number && (number, malformed) != (2, 1) {
-            continue;
-        }
         let mut cut = call.clone();
-        let short = cut.slices[place].pop().is_some();
-        if short {
-            let number = if number == 1 { 1 } else { malformed };
+        let is_cut = cut.slices[place].pop().is_some();
+        let number = number_cut(number, call.sort.malformed(place));
+        if let Some(number) = number.filter(|_| is_cut) {
             with_rooms(&cut, number, each)?;
         }
     }
     Ok(())
 }
 
+/// What the call returns with a slice a byte short, where `malformed` is the number for that one.
+/// None where the cut may mend what is malformed already.
+fn number_cut(number: u32, malformed: u32) -> Option<u32> {
+    match (number, malformed) {
+        (1, 2) | (2, 1) => Some(1),
+        (1 | 2, _) => None,
+        _ => Some(malformed),
+    }
+}
+
 /// With guard bytes behind each slice, and with nothing behind it.
+fn with_gaps(call: &Call, number: u32, room: usize, each: Each) -> Swept {
+    let wanted = with_room(call, number, room);
+    each(call, Slices { room, gap: 0 }, wanted)?;
+    each(call, Slices { room, gap: GUARD }, wanted)
+}
+
 fn with_rooms(call: &Call, number: u32, each: Each) -> Swept {
     let least = call.sort.room();
     for room in [0, 1, least - 1, least, least + 1, least + 61] {
-        for gap in [0, GUARD] {
-            each(call, Slices { room, gap }, with_room(call, number, room))?;
-        }
+        with_gaps(call, number, room, each)?;
     }
     Ok(())
 }
@@ -57,9 +66,7 @@ fn with_room(call: &Call, number: u32, room: usize) -> u32 {
 /// Output slices of every length.
 pub fn rooms(call: &Call, number: u32, each: Each) -> Swept {
     for room in 0..=LONGEST_ROOM {
-        let wanted = with_room(call, number, room);
-        each(call, Slices { room, gap: 0 }, wanted)?;
-        each(call, Slices { room, gap: GUARD }, wanted)?;
+        with_gaps(call, number, room, each)?;
     }
     Ok(())
 }

@@ -136,10 +136,13 @@ fn each_changed_answer_is_found_at_its_line() {
     let lines: Vec<&str> = text.lines().collect();
     let is_answer = |line: &usize| lines[*line].starts_with("# answer:");
     for line in (0..lines.len()).filter(is_answer) {
-        for other in ["no 8", "no 18", "open", "done", "voted", "started"] {
-            let changed = changed(&lines, line, other);
-            assert!(changed == text || found(&changed).0 == line + 1, "{other}");
-        }
+        let other = if lines[line].contains("no 18") {
+            "no 8"
+        } else {
+            "no 18"
+        };
+        let changed = changed(&lines, line, other);
+        assert_eq!(found(&changed).0, line + 1);
     }
 }
 

@@ -21,6 +21,9 @@ fn main() -> ExitCode {
         ["--help" | "-h"] => print(USAGE.as_bytes()),
         ["input", path] => write(path, |runs| Ok(export::only_run(runs)?.input())),
         ["answers", path] => write(path, |runs| Ok(export::only_run(runs)?.lines())),
+        [word @ ("input" | "answers"), ..] => {
+            Err(format!("{word} takes one file; see corpus --help"))
+        }
         ["calls", paths @ ..] => calls(paths),
         ["--node-run", program, paths @ ..] => run(program.into(), paths),
         paths => run(root().join("target/bin/node_run"), paths),

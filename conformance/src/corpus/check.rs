@@ -11,6 +11,9 @@ use std::io::{self, Write};
 use std::path::{Path, PathBuf};
 use std::process::{Command, Stdio};
 
+/// The most that is shown of a line that was printed.
+const MOST_SHOWN: usize = 80;
+
 pub struct Checker {
     pub desk: Desk,
     pub node_run: PathBuf,
@@ -161,7 +164,7 @@ impl Run {
         for request in self.requests.iter().filter(|request| request.is_in_run()) {
             let line = lines.next().unwrap_or("nothing");
             if Some(line) != request.printed().as_deref() {
-                let shown = line.trim_end().escape_debug();
+                let shown: String = line.trim_end().escape_debug().take(MOST_SHOWN).collect();
                 return Err((request.line, format!("{name} prints \"{shown}\"")));
             }
         }

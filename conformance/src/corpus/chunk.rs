@@ -47,7 +47,7 @@ pub struct Chunk {
 }
 
 /// The longest slice that a size makes: a record of the greatest length field.
-const LONGEST: usize = 65537;
+pub const LONGEST: usize = 65537;
 
 impl Chunk {
     pub fn push(&mut self, line: usize, text: &str) {
@@ -87,7 +87,10 @@ impl Chunk {
         for (line, change) in &self.changes {
             item.apply(*line, change)?;
         }
-        Ok(item)
+        match self.lines.first() {
+            Some((line, _)) if item.bytes.len() > LONGEST => error(*line, "no record is as long"),
+            _ => Ok(item),
+        }
     }
 }
 

@@ -2,7 +2,7 @@
 
 use super::answer::Answer;
 use super::call::{Sort, SORTS};
-use super::chunk::{error, number, Chunk, Item, Parse};
+use super::chunk::{error, number, Chunk, Item, Parse, LONGEST};
 use std::collections::HashMap;
 
 /// How a request is made.
@@ -178,7 +178,13 @@ fn sort_named(line: usize, name: &str) -> Parse<Sort> {
 fn room_named(line: usize, words: &[&str]) -> Parse<Option<usize>> {
     match words {
         [] => Ok(None),
-        ["room", room] => number(line, room).map(Some),
+        ["room", room] => match number(line, room)? {
+            room if room <= LONGEST => Ok(Some(room)),
+            _ => error(
+                line,
+                format!("an output slice here has {LONGEST} bytes at most"),
+            ),
+        },
         _ => error(line, "room N, or the end of the line, is expected"),
     }
 }

@@ -211,9 +211,9 @@ const ASKED: [&str; 3] = [
 /// What a node answers to these: 3 where it is halted, 17 where it is locked, else 4 and 19.
 fn numbers_of(image: &[u8]) -> (u32, u32) {
     let seat = usize::from(image[CHECKPOINT_SIZE]);
-    let standing = image[18 + 5 * seat];
+    let standing = image.get(18 + 5 * seat);
     match (standing, image[IMAGE_SIZE - 1]) {
-        (3, _) => (3, 3),
+        (Some(3), _) => (3, 3),
         (_, 10) => (4, 17),
         _ => (4, 19),
     }

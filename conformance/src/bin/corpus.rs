@@ -102,10 +102,10 @@ fn run(node_run: PathBuf, paths: &[&str]) -> Done {
     let files = files(paths)?;
     for (name, path) in &files {
         match checker.file(&read(name, path)?) {
-            Ok(counts) => println!("{name}: {}", summary(counts)),
+            Ok(counts) => say(&format!("{name}: {}", summary(counts))),
             Err(found) => {
                 differ += 1;
-                println!("DIFFERENCE: {}", at(name, found));
+                say(&format!("DIFFERENCE: {}", at(name, found)));
             }
         }
     }
@@ -132,17 +132,25 @@ fn summary(counts: Counts) -> String {
 }
 
 fn conclude(checker: &Checker, files: usize, differ: usize) -> ExitCode {
-    let lines = checker.reached.lines();
-    lines.iter().for_each(|line| println!("{line}"));
     let missing = checker.reached.missing();
+    let reached = checker.reached.lines();
+    reached.iter().for_each(|line| say(line));
     missing
         .iter()
-        .for_each(|line| println!("NOT REACHED: {line}"));
+        .for_each(|line| say(&format!("NOT REACHED: {line}")));
     let calls = checker.desk.calls;
-    println!("{files} files, {differ} differ; {calls} calls on guarded slices");
+    say(&format!(
+        "{files} files, {differ} differ; {calls} calls on guarded slices"
+    ));
     match (differ, missing.len()) {
         (0, 0) => ExitCode::SUCCESS,
         (0, _) => ExitCode::from(3),
         _ => ExitCode::FAILURE,
     }
+}
+
+/// A line on standard output. Whoever closed it doesn't read the rest; the exit status still says
+/// all.
+fn say(line: &str) {
+    drop(writeln!(io::stdout(), "{line}"));
 }

@@ -1,14 +1,21 @@
-/* The deepest stack use of each call, measured on a stack that was filled beforehand, against what access_node.h states. Built without
- * sanitizers, which use stack of their own. */
-#include "slices.h"
+/* The deepest stack use of each call, measured on a stack that was filled beforehand, against what access_node.h states. Standard input has
+ * the calls, as the program corpus writes them (`corpus calls`); they reach every answer. Built without sanitizers, which use stack of their
+ * own. */
+#include "access_node.h"
 
-#include "requests.h"
-
+#include <stdio.h>
+#include <stdlib.h>
+#include <string.h>
 #include <ucontext.h>
 
-/* What access_node.h promises to leave between the measured and the stated use. */
-enum { STACK = 65536, SPARE = 512 };
+/* NONE makes no call: it shows what a call would find in use. */
+enum call { START, DELIVER, QUERY, CHECKPOINT, NONE, CALLS = NONE };
 
+/* SPARE is what access_node.h promises to leave between the measured and the stated use. */
+enum { INPUTS = 3, LONGEST = 65537, STACK = 65536, FILL = 0xA5, SPARE = 512 };
+
+static const char *const names[CALLS] = {"node_start", "node_deliver", "node_query", "node_checkpoint"};
+static const size_t input_counts[CALLS] = {2, 3, 2, 1};
 static const size_t stated[CALLS] = {
     [START] = ACCESS_NODE_STACK_START,
     [DELIVER] = ACCESS_NODE_STACK_DELIVER,
@@ -16,81 +23,117 @@ static const size_t stated[CALLS] = {
     [CHECKPOINT] = ACCESS_NODE_STACK_CHECKPOINT,
 };
 
-static uint8_t stack[STACK];
-static struct request job;
-static uint8_t output[ACCESS_NODE_IMAGE_SIZE];
+/* The call at hand. */
+static enum call call;
+static uint8_t in[INPUTS][LONGEST];
+static size_t length[INPUTS];
+static uint8_t out[ACCESS_NODE_IMAGE_SIZE];
 static size_t room;
+
+static uint8_t stack[STACK];
 static ucontext_t caller;
 static size_t deepest[CALLS];
 
-static void run_job(void) {
-    uint8_t *slices[INPUTS + 1] = {job.bytes[0], job.bytes[1], job.bytes[2], output};
-    dispatch(job.call, slices, job.length, room);
+static void make(void) {
+    if (call == START)
+        node_start(in[0], length[0], in[1], length[1], out, room);
+    else if (call == DELIVER)
+        node_deliver(in[0], length[0], in[1], length[1], in[2], length[2], out, room);
+    else if (call == QUERY)
+        node_query(in[0], length[0], in[1], length[1], out, room);
+    else if (call == CHECKPOINT)
+        node_checkpoint(in[0], length[0], out, room);
 }
 
-static void run_on_stack(void) {
+static void make_on_stack(void) {
     ucontext_t context;
     if (getcontext(&context) != 0)
-        exit(1);
+        exit(2);
     context.uc_stack.ss_sp = stack;
     context.uc_stack.ss_size = sizeof stack;
     context.uc_link = &caller;
-    makecontext(&context, run_job, 0);
+    makecontext(&context, make, 0);
     if (swapcontext(&caller, &context) != 0)
-        exit(1);
+        exit(2);
 }
 
-/* How many bytes of the stack the job changed, from the deepest one up. */
+/* How many bytes of the stack the call changed, from the deepest one up. */
 static size_t bytes_used(void) {
     size_t unused = 0;
     memset(stack, FILL, sizeof stack);
-    run_on_stack();
+    make_on_stack();
     while (unused < sizeof stack && stack[unused] == FILL)
         unused++;
     return sizeof stack - unused;
 }
 
 /* Less what is in use where no call is made. The first run is not measured: in it the dynamic linker may look up memcpy. */
-static void measure(struct request r, size_t output_length) {
-    job = (struct request){.call = NONE};
+static void measure(size_t output_length) {
+    enum call made = call;
+    call = NONE;
     size_t base = bytes_used();
-    job = r;
+    call = made;
     room = output_length;
-    run_on_stack();
+    make_on_stack();
     size_t used = bytes_used() - base;
-    if (used > deepest[r.call])
-        deepest[r.call] = used;
+    if (used > deepest[call])
+        deepest[call] = used;
 }
 
-/* The request, the same without room, and with each input slice a byte short, and malformed in its last byte. */
-static void measure_all(const struct request *r) {
-    measure(*r, sizeof output);
-    measure(*r, 0);
-    for (size_t i = 0; i < input_counts[r->call]; i++) {
-        struct request cut = *r, changed = *r;
-        cut.length[i]--;
-        measure(cut, sizeof output);
-        changed.bytes[i][r->length[i] - 1] = 255;
-        measure(changed, sizeof output);
+/* The call, the same without room, and with each input slice a byte short, and malformed in its last byte. */
+static void measure_all(void) {
+    measure(sizeof out);
+    measure(0);
+    for (size_t i = 0; i < input_counts[call]; i++) {
+        if (length[i] == 0)
+            continue;
+        uint8_t *last = &in[i][length[i] - 1], kept = *last;
+        length[i]--;
+        measure(sizeof out);
+        length[i]++;
+        *last = 255;
+        measure(sizeof out);
+        *last = kept;
     }
 }
 
-static void compare(enum call call) {
-    if (deepest[call] + SPARE <= stated[call])
-        return;
-    printf("%s uses %zu bytes of stack, with %d to spare, and access_node.h states %zu\n", call_names[call], deepest[call], SPARE,
-           stated[call]);
-    failures++;
+/* The next call: its number, three lengths, then the slices. 0 at the end of the input. */
+static int read_call(void) {
+    uint8_t head[4 * (1 + INPUTS)];
+    size_t numbers[1 + INPUTS], got = fread(head, 1, sizeof head, stdin);
+    if (got == 0 && feof(stdin))
+        return 0;
+    for (size_t i = 0; i <= INPUTS; i++)
+        numbers[i] = head[4 * i] | head[4 * i + 1] << 8 | (size_t)head[4 * i + 2] << 16 | (size_t)head[4 * i + 3] << 24;
+    int good = got == sizeof head && numbers[0] < CALLS;
+    for (size_t i = 0; good && i < INPUTS; i++) {
+        length[i] = numbers[1 + i];
+        good = length[i] <= LONGEST && fread(in[i], 1, length[i], stdin) == length[i];
+    }
+    if (!good) {
+        fprintf(stderr, "stack_use: standard input is not what corpus calls writes\n");
+        exit(2);
+    }
+    call = (enum call)numbers[0];
+    return 1;
+}
+
+/* Whether the call was measured, and stays below what is stated. */
+static int is_stated(enum call c) {
+    if (deepest[c] > 0 && deepest[c] + SPARE <= stated[c])
+        return 1;
+    printf("%s uses %zu bytes of stack, with %d to spare, and access_node.h states %zu\n", names[c], deepest[c], SPARE, stated[c]);
+    return 0;
 }
 
 int main(void) {
-    for (size_t i = 0; i < SAMPLES; i++) {
-        struct sample s = sample_at(i);
-        measure_all(&s.request);
-    }
-    for (size_t call = 0; call < CALLS; call++)
-        compare((enum call)call);
-    printf("stack use: start %zu, deliver %zu, query %zu, checkpoint %zu bytes, %d failures\n", deepest[START], deepest[DELIVER],
-           deepest[QUERY], deepest[CHECKPOINT], failures);
-    return failures != 0;
+    size_t calls = 0;
+    for (; read_call(); calls++)
+        measure_all();
+    int good = 1;
+    for (size_t c = 0; c < CALLS; c++)
+        good &= is_stated((enum call)c);
+    printf("stack use over %zu calls: start %zu, deliver %zu, query %zu, checkpoint %zu bytes\n", calls, deepest[START], deepest[DELIVER],
+           deepest[QUERY], deepest[CHECKPOINT]);
+    return !good;
 }

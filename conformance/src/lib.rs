@@ -4,6 +4,7 @@
 pub mod archive;
 pub mod bench;
 pub mod calls;
+pub mod corpus;
 pub mod history;
 pub mod paper;
 pub mod script;

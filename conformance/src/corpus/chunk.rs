@@ -1,0 +1,136 @@
+//! One record, checkpoint or image of the text: its lines as `records compose` takes them, and the
+//! changes of its bytes below them.
+
+use crate::script;
+
+/// A message about a line of the text.
+#[derive(Debug, Clone, PartialEq, Eq)]
+pub struct Error {
+    pub line: usize,
+    pub what: String,
+}
+
+pub type Parse<T> = Result<T, Error>;
+
+pub fn error<T>(line: usize, what: impl Into<String>) -> Parse<T> {
+    let what = what.into();
+    Err(Error { line, what })
+}
+
+/// The bytes of a chunk. With `each`, a request is made for each of several of its bytes.
+#[derive(Debug, Clone, PartialEq, Eq)]
+pub struct Item {
+    pub bytes: Vec<u8>,
+    pub each: Option<Each>,
+}
+
+/// Each byte from a place to a place, both included, put to a value.
+#[derive(Debug, Clone, Copy, PartialEq, Eq)]
+pub struct Each {
+    pub from: usize,
+    pub to: usize,
+    pub byte: u8,
+}
+
+/// A change of the bytes that the lines make.
+#[derive(Debug, Clone)]
+enum Change {
+    At(usize, Vec<u8>),
+    Size(usize),
+    Each(Each),
+}
+
+#[derive(Debug, Clone, Default)]
+pub struct Chunk {
+    lines: Vec<(usize, String)>,
+    changes: Vec<(usize, Change)>,
+}
+
+/// The longest slice that a size makes: a record of the greatest length field.
+pub const LONGEST: usize = 65537;
+
+impl Chunk {
+    pub fn push(&mut self, line: usize, text: &str) {
+        self.lines.push((line, text.to_string()));
+    }
+
+    /// A line `at`, `size` or `each` below the chunk.
+    pub fn change(&mut self, line: usize, words: &[&str]) -> Parse<()> {
+        let change = match words {
+            ["at", place, "bytes", bytes @ ..] => {
+                Change::At(number(line, place)?, hexadecimal(line, bytes)?)
+            }
+            ["size", size] => Change::Size(number(line, size)?.min(LONGEST)),
+            ["each", from, "to", to, "bytes", byte] => Change::Each(Each {
+                from: number(line, from)?,
+                to: number(line, to)?,
+                byte: hexadecimal(line, &[byte])?[0],
+            }),
+            _ => {
+                return error(
+                    line,
+                    "at N bytes .., size N or each N to N bytes .. is expected",
+                )
+            }
+        };
+        self.changes.push((line, change));
+        Ok(())
+    }
+
+    pub fn item(&self) -> Parse<Item> {
+        let lines: Vec<&str> = self.lines.iter().map(|(_, text)| text.as_str()).collect();
+        let bytes = script::compose(&lines.join("\n")).or_else(|found| {
+            let (line, _) = self.lines[found.place.line - 1];
+            error(line, found.what)
+        })?;
+        let mut item = Item { bytes, each: None };
+        for (line, change) in &self.changes {
+            item.apply(*line, change)?;
+        }
+        match self.lines.first() {
+            Some((line, _)) if item.bytes.len() > LONGEST => error(*line, "no record is as long"),
+            _ => Ok(item),
+        }
+    }
+}
+
+impl Item {
+    fn apply(&mut self, line: usize, change: &Change) -> Parse<()> {
+        let size = self.bytes.len();
+        match change {
+            Change::At(place, bytes) if place + bytes.len() <= size => {
+                self.bytes[*place..place + bytes.len()].copy_from_slice(bytes);
+            }
+            Change::Size(size) => self.bytes.resize(*size, 0),
+            Change::Each(each) if each.from <= each.to && each.to < size => {
+                self.each = Some(*each);
+            }
+            _ => return error(line, format!("the bytes before it are {size}")),
+        }
+        Ok(())
+    }
+
+    /// The bytes, or one for each place of `each`.
+    pub fn all(&self) -> Vec<Vec<u8>> {
+        let Some(each) = self.each else {
+            return vec![self.bytes.clone()];
+        };
+        let changed = |place: usize| {
+            let mut bytes = self.bytes.clone();
+            bytes[place] = each.byte;
+            bytes
+        };
+        (each.from..=each.to).map(changed).collect()
+    }
+}
+
+pub fn number(line: usize, word: &str) -> Parse<usize> {
+    word.parse()
+        .or_else(|_| error(line, format!("`{word}` is not a number")))
+}
+
+/// Bytes of two hexadecimal digits, at least one.
+fn hexadecimal(line: usize, words: &[&str]) -> Parse<Vec<u8>> {
+    let text = format!("bytes {}", words.join(" "));
+    script::compose(&text).or_else(|found| error(line, found.what))
+}

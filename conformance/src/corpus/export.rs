@@ -1,0 +1,42 @@
+//! What the corpus gives to others: node-run's input and output, and the calls for C.
+
+use super::call::{Call, SECOND};
+use super::file::Run;
+use super::walk::{walk, Found};
+
+/// The only run of a file.
+pub fn only_run(runs: &[Run]) -> Result<&Run, Found> {
+    match runs {
+        [run] => Ok(run),
+        _ => Err((1, format!("the file has {} runs, and not one", runs.len()))),
+    }
+}
+
+/// Every call of the runs: the number of the call from 0 (start, deliver, query, checkpoint) and the
+/// lengths of its slices, three, each in 4 bytes; then the slices.
+pub fn calls(runs: &[Run]) -> Result<Vec<u8>, Found> {
+    let mut out = Vec::new();
+    for run in runs {
+        walk(run, &mut |_, call, room| {
+            push(&mut out, call);
+            Ok(image_after(call, room))
+        })?;
+    }
+    Ok(out)
+}
+
+fn push(out: &mut Vec<u8>, call: &Call) {
+    let length = |place: usize| call.slices.get(place).map_or(0, Vec::len) as u32;
+    for number in [call.sort as u32, length(0), length(1), length(2)] {
+        out.extend(number.to_le_bytes());
+    }
+    out.extend(call.slices.concat());
+}
+
+/// What the second implementation writes.
+fn image_after(call: &Call, room: usize) -> Option<Vec<u8>> {
+    let mut image = vec![0; room];
+    let slices: Vec<&[u8]> = call.slices.iter().map(Vec::as_slice).collect();
+    let number = SECOND.call(call.sort, &slices, &mut image);
+    call.sort.writes(number).then_some(image)
+}

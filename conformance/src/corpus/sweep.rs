@@ -1,0 +1,220 @@
+//! Calls derived from a request of the corpus, with the numbers that follow from its own by these
+//! sentences of document 01: what is malformed ("So is an input slice that isn't exactly one
+//! record, checkpoint or image"), 1 before 2 before 22, and 22 for every output slice that is too
+//! short.
+
+use super::call::{Call, Sort, CHECKPOINT_SIZE, IMAGE_SIZE};
+use super::make::{Slices, GUARD};
+use crate::script;
+
+/// What is done with a derived call and the number it is to return; an error ends the sweep.
+pub type Each<'a> = &'a mut dyn FnMut(&Call, Slices, u32) -> Result<(), String>;
+
+type Swept = Result<(), String>;
+
+const LONGEST_ROOM: usize = 1200;
+const LONGEST_SLICE: usize = 65536;
+
+/// Output slices of several lengths, and each input slice a byte short. `number` is what the call
+/// returns where it has room.
+pub fn around(call: &Call, number: u32, each: Each) -> Swept {
+    with_rooms(call, number, each)?;
+    for place in 0..call.slices.len() {
+        let mut cut = call.clone();
+        let is_cut = cut.slices[place].pop().is_some();
+        let number = number_cut(number, call.sort.malformed(place));
+        if let Some(number) = number.filter(|_| is_cut) {
+            with_rooms(&cut, number, each)?;
+        }
+    }
+    Ok(())
+}
+
+/// What the call returns with a slice a byte short, where `malformed` is the number for that one.
+/// None where the cut may mend what is malformed already.
+fn number_cut(number: u32, malformed: u32) -> Option<u32> {
+    match (number, malformed) {
+        (1, 2) | (2, 1) => Some(1),
+        (1 | 2, _) => None,
+        _ => Some(malformed),
+    }
+}
+
+/// With guard bytes behind each slice, and with nothing behind it.
+fn with_gaps(call: &Call, number: u32, room: usize, each: Each) -> Swept {
+    let wanted = with_room(call, number, room);
+    each(call, Slices { room, gap: 0 }, wanted)?;
+    each(call, Slices { room, gap: GUARD }, wanted)
+}
+
+fn with_rooms(call: &Call, number: u32, each: Each) -> Swept {
+    let least = call.sort.room();
+    for room in [0, 1, least - 1, least, least + 1, least + 61] {
+        with_gaps(call, number, room, each)?;
+    }
+    Ok(())
+}
+
+/// "straight after 1 and 2"
+fn with_room(call: &Call, number: u32, room: usize) -> u32 {
+    match room < call.sort.room() && number != 1 && number != 2 {
+        true => 22,
+        false => number,
+    }
+}
+
+/// Output slices of every length.
+pub fn rooms(call: &Call, number: u32, each: Each) -> Swept {
+    for room in 0..=LONGEST_ROOM {
+        with_gaps(call, number, room, each)?;
+    }
+    Ok(())
+}
+
+/// Input slices of every shorter and some longer lengths, and other records in the place of each.
+/// Nothing of the call is malformed.
+pub fn slices(call: &Call, each: Each) -> Swept {
+    for place in 0..call.slices.len() {
+        lengths(call, place, each)?;
+        misplaced(call, place, each)?;
+    }
+    Ok(())
+}
+
+/// As it is, and with the length field that fits it.
+fn lengths(call: &Call, place: usize, each: Each) -> Swept {
+    let whole = call.slices[place].len();
+    let longer = [whole + 1, whole + 5, whole + 100, LONGEST_SLICE];
+    for length in (0..whole).chain(longer) {
+        let mut other = call.clone();
+        let slice = &mut other.slices[place];
+        slice.resize(length, 0);
+        malformed(&other, place, each)?;
+        let slice = &mut other.slices[place];
+        let field = (length.max(2) - 2) as u16;
+        let fitting = field.to_le_bytes();
+        let size = length.min(2);
+        slice[..size].copy_from_slice(&fitting[..size]);
+        malformed(&other, place, each)?;
+    }
+    Ok(())
+}
+
+fn malformed(call: &Call, place: usize, each: Each) -> Swept {
+    let slices = Slices {
+        room: call.sort.room(),
+        gap: 0,
+    };
+    each(call, slices, call.sort.malformed(place))
+}
+
+const RECORDS: [&str; 4] = [
+    "start seat 0 life 1",
+    "announce cycle 1 day 101 end login 501",
+    "sheet level-1 0 level-2 rows",
+    "query login 501 day 120 right 0",
+];
+
+/// A record of another sort in the place of this one.
+fn misplaced(call: &Call, place: usize, each: Each) -> Swept {
+    let composed = RECORDS.iter().filter_map(|text| script::compose(text).ok());
+    let others: Vec<Vec<u8>> = composed.chain(call.slices.clone()).collect();
+    let own = sort_of(&call.slices[place]);
+    for other in others.into_iter().filter(|other| sort_of(other) != own) {
+        let mut call = call.clone();
+        call.slices[place] = other;
+        malformed(&call, place, each)?;
+    }
+    Ok(())
+}
+
+/// The kind that a record's third byte tells, the nine of an announcement as one.
+fn sort_of(record: &[u8]) -> Option<u8> {
+    record.get(2).map(|kind| match kind {
+        1..=9 => 1,
+        _ => *kind,
+    })
+}
+
+/// The announcement of a delivery as the vote of its image, "well formed and of this cycle". The
+/// image is well formed, so a delivery that returns 1 has a malformed announcement.
+pub fn as_vote(call: &Call, number: u32, each: Each) -> Swept {
+    let [image, announcement, ..] = call.slices.as_slice() else {
+        return Ok(());
+    };
+    if call.sort != Sort::Deliver || announcement.len() != 24 {
+        return Ok(());
+    }
+    let is_good = number != 1 && announcement[4..8] == image[4..8];
+    let mut image = image.clone();
+    image[1113] = 1;
+    image[1114..1138].copy_from_slice(announcement);
+    image_in_calls(&image, is_good, each)
+}
+
+/// The checkpoint of a refused start as the front of an image. Its start is well formed, or makes a
+/// malformed own part as well.
+pub fn as_image(call: &Call, number: u32, each: Each) -> Swept {
+    let [checkpoint, start] = call.slices.as_slice() else {
+        return Ok(());
+    };
+    let is_start = start.len() == 9 && start.starts_with(&[7, 0, 19, 0]);
+    if call.sort != Sort::Start || number != 1 || !is_start || checkpoint.len() != CHECKPOINT_SIZE {
+        return Ok(());
+    }
+    let mut image = [checkpoint.as_slice(), &start[4..]].concat();
+    if start[5..] == [0; 4] {
+        image[CHECKPOINT_SIZE + 1] = 1;
+    }
+    image.resize(IMAGE_SIZE, 0);
+    image_in_calls(&image, false, each)
+}
+
+/// The image of a checkpoint call in the other calls that take one.
+pub fn in_other_calls(call: &Call, number: u32, each: Each) -> Swept {
+    match call.sort {
+        Sort::Checkpoint if call.slices[0].len() == IMAGE_SIZE => {
+            image_in_calls(&call.slices[0], number != 1, each)
+        }
+        _ => Ok(()),
+    }
+}
+
+/// An image in each call that takes one: an announcement of cycle 0, which has passed in every
+/// state, and a query for login 0, which is never listed, on day 0, which is never after the agreed
+/// day.
+pub fn image_in_calls(image: &[u8], is_good: bool, each: Each) -> Swept {
+    let (deliver, query) = match is_good {
+        true => numbers_of(image),
+        false => (1, 1),
+    };
+    let records = ASKED.map(|text| script::compose(text).unwrap_or_default());
+    let [announcement, sheet, login_0] = records;
+    for (sort, records, number) in [
+        (Sort::Checkpoint, vec![], u32::from(!is_good)),
+        (Sort::Deliver, vec![announcement, sheet], deliver),
+        (Sort::Query, vec![login_0], query),
+    ] {
+        if let Some(call) = Call::new(sort, Some(image), records) {
+            around(&call, number, each)?;
+        }
+    }
+    Ok(())
+}
+
+const ASKED: [&str; 3] = [
+    "announce cycle 0 day 101 end login 501",
+    "sheet level-1 0 level-2 rows",
+    "query login 0 day 0 right 0",
+];
+
+/// What a node answers to these: 3 where it is halted, 17 where it is locked, else 4 and 19.
+fn numbers_of(image: &[u8]) -> (u32, u32) {
+    let seat = usize::from(image[CHECKPOINT_SIZE]);
+    let standing = image.get(18 + 5 * seat);
+    match (standing, image[IMAGE_SIZE - 1]) {
+        (Some(3), _) => (3, 3),
+        (_, 10) => (4, 17),
+        _ => (4, 19),
+    }
+}

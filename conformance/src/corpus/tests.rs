@@ -1,0 +1,183 @@
+//! That the text is read as corpus/README.md says, and that a wrong answer is found.
+
+use super::answer::Answer;
+use super::check::Checker;
+use super::export;
+use super::file::read;
+use super::walk::Found;
+use crate::script;
+use std::path::{Path, PathBuf};
+
+fn folder() -> PathBuf {
+    Path::new(env!("CARGO_MANIFEST_DIR")).join("../corpus")
+}
+
+fn text(name: &str) -> String {
+    std::fs::read_to_string(folder().join(name)).unwrap()
+}
+
+/// The bytes of the only record of a text, and of its only request by call.
+fn bytes(text: &str) -> Vec<u8> {
+    let runs = read(&format!("call query\n{text}\n# answer: no 1\n")).unwrap();
+    runs[0].requests[0].items[0].bytes.clone()
+}
+
+/// The line and the message of a text that is not understood.
+fn message(text: &str) -> (usize, String) {
+    let found = read(text).unwrap_err();
+    (found.line, found.what)
+}
+
+const QUERY: &str = "query login 501 day 120 right 0";
+
+#[test]
+fn changes_of_a_record() {
+    let whole = bytes(QUERY);
+    assert_eq!(bytes(&format!("{QUERY}\n size 4")), whole[..4]);
+    assert_eq!(bytes(&format!("{QUERY}\n size 14"))[13..], [0]);
+    let changed = bytes(&format!("{QUERY}\n at 2 bytes 13 01 # the kind"));
+    assert_eq!(changed[..4], [11, 0, 0x13, 1]);
+    assert_eq!(changed[4..], whole[4..]);
+}
+
+#[test]
+fn a_name_stands_for_a_record() {
+    let named = bytes(&format!("let asked\n{QUERY}\n at 12 bytes 0f\nsame asked"));
+    assert_eq!(named, bytes("query login 501 day 120 right 15"));
+    let image =
+        "let park\ncheckpoint cycle 1 day 1 trustees 1 1 m 0 k 1 S 1\n seat 0 present life 1\n\
+                 same park\nown seat 0 life 1 misses 3";
+    assert_eq!(bytes(image).len(), 1139);
+    assert_eq!(bytes(image)[1138], 3);
+}
+
+#[test]
+fn each_of_several_bytes() {
+    let text = format!("call query\n{QUERY}\n each 4 to 6 bytes 09\n# answer: no 1\n");
+    let runs = read(&text).unwrap();
+    let all = runs[0].requests[0].items[0].all();
+    let places: Vec<usize> = (0..13)
+        .filter(|at| all.iter().any(|b| b[*at] == 9))
+        .collect();
+    assert_eq!((all.len(), places), (3, vec![4, 5, 6]));
+}
+
+#[test]
+fn messages_have_their_line() {
+    for (text, line, what) in [
+        ("start seat x life 1", 1, "a number (seat)"),
+        ("\nsame park", 2, "nothing above is named `park`"),
+        ("bytes 00\nrun", 2, "has no answer"),
+        ("bytes 00\ncall query", 2, "has no answer"),
+        ("bytes 00\n", 1, "has no answer"),
+        ("bytes 00\n# answer: 2 no 1 0", 2, "the ordinal is 1"),
+        ("bytes 00\n# answer: open", 2, "an ordinal, an answer"),
+        ("bytes 00\n# answer: 1 shut 1", 2, "is expected"),
+        ("call query\n# answer: 1 open 1", 2, "is expected"),
+        ("call frobnicate", 1, "start, deliver, query or checkpoint"),
+        ("call query rooms 3", 1, "room N"),
+        ("bytes 00\n at 1 bytes 00", 2, "the bytes before it are 1"),
+        ("bytes 00\n at 0 bytes 0", 2, "two hexadecimal digits"),
+        ("at 0 bytes 00", 1, "is expected"),
+    ] {
+        let found = message(text);
+        assert_eq!(found.0, line, "{text}: {}", found.1);
+        assert!(found.1.contains(what), "{text}: {}", found.1);
+    }
+}
+
+fn names() -> Vec<String> {
+    let entries = std::fs::read_dir(folder()).unwrap();
+    let names = entries.map(|entry| entry.unwrap().file_name().into_string().unwrap());
+    names.filter(|name| name.ends_with(".txt")).collect()
+}
+
+/// Those of rules, formats and hazards, with the printed run, the quorums and node-run's input.
+#[test]
+fn every_file_is_read() {
+    for name in names() {
+        assert!(read(&text(&name)).is_ok(), "{name}");
+    }
+    assert_eq!(names().len(), 22 + 7 + 6 + 3);
+}
+
+#[test]
+fn each_rule_has_a_file_that_reaches_it() {
+    for rule in 1..=22 {
+        let runs = read(&text(&format!("rule-{rule:02}.txt"))).unwrap();
+        let mut requests = runs.iter().flat_map(|run| &run.requests);
+        let met = requests.any(|request| request.answer == Answer::No(rule));
+        assert!(met, "rule {rule}");
+    }
+}
+
+/// A file without words of its own is a text of `records`.
+#[test]
+fn hazards_and_the_printed_run_compose() {
+    let plain = |name: &&String| name.starts_with("hazard") || name.starts_with("printed");
+    for name in names().iter().filter(plain) {
+        let runs = read(&text(name)).unwrap();
+        let run = export::only_run(&runs).unwrap();
+        assert_eq!(script::compose(&text(name)), Ok(run.input()), "{name}");
+    }
+}
+
+/// What the archive and the second implementation find in a text. There is no node-run here: a run
+/// that is as it should be ends with that message.
+fn found(text: &str) -> Found {
+    let mut checker = Checker::new("no node-run".into()).unwrap();
+    checker.file(&read(text).unwrap()).unwrap_err()
+}
+
+#[test]
+fn each_changed_answer_is_found_at_its_line() {
+    let text = text("rule-16.txt");
+    assert!(found(&text).1.contains("no node-run"));
+    let lines: Vec<&str> = text.lines().collect();
+    let is_answer = |line: &usize| lines[*line].starts_with("# answer:");
+    for line in (0..lines.len()).filter(is_answer) {
+        let other = if lines[line].contains("no 18") {
+            "no 8"
+        } else {
+            "no 18"
+        };
+        let changed = changed(&lines, line, other);
+        assert_eq!(found(&changed).0, line + 1);
+    }
+}
+
+/// The text with another answer on a line; the ordinal and the cycle stay.
+fn changed(lines: &[&str], line: usize, answer: &str) -> String {
+    let words: Vec<&str> = lines[line].split_whitespace().collect();
+    let other = format!("# answer: {} {answer} {}", words[2], words[words.len() - 1]);
+    let mut lines = lines.to_vec();
+    lines[line] = &other;
+    lines.join("\n") + "\n"
+}
+
+#[test]
+fn a_changed_cycle_is_found() {
+    let text = text("printed-run.txt").replace("3 done 2", "3 done 3");
+    assert!(found(&text).1.contains("the node's cycle is 2, wanted 3"));
+}
+
+#[test]
+fn nothing_follows_the_end_of_a_run() {
+    let text = "bytes 00\n# answer: 1 no 1 0\nbytes 00\n# answer: 2 no 1 0\n";
+    assert_eq!(found(text), (4, "the run ended above".to_string()));
+    let text = "bytes 00\n# answer: 1 open 0\n";
+    assert!(found(text).1.contains("it ends the run"));
+}
+
+/// The calls of a text: a head of 16 bytes, then the slices.
+#[test]
+fn calls_for_c() {
+    let runs = read(&text("printed-run.txt")).unwrap();
+    let calls = export::calls(&runs).unwrap();
+    assert_eq!(
+        calls[..16],
+        [0, 0, 0, 0, 84, 4, 0, 0, 9, 0, 0, 0, 0, 0, 0, 0]
+    );
+    let sizes = 1108 + 9 + (1139 + 24 + 7) + (1139 + 24 + 17) + 3 * (1139 + 13);
+    assert_eq!(calls.len(), 6 * 16 + sizes);
+}

@@ -1,0 +1,57 @@
+//! What a call is to write, as far as the papers give it by itself: all of it but the tables of the
+//! state after a performed action. These are compared between the implementations.
+
+use super::answer::VOTED;
+use super::call::{Call, Sort, CHECKPOINT_SIZE, IMAGE_SIZE};
+
+const OWN_AT: usize = CHECKPOINT_SIZE;
+const VOTED_AT: usize = 1113;
+const VOTE_AT: usize = 1114;
+const MISSES_AT: usize = 1138;
+
+pub fn check(call: &Call, number: u32, written: &[u8]) -> Result<(), String> {
+    let sizes: Vec<usize> = call.slices.iter().map(Vec::len).collect();
+    let whole: &[usize] = match call.sort {
+        Sort::Start => &[CHECKPOINT_SIZE, 9],
+        Sort::Deliver => &[IMAGE_SIZE, 24],
+        Sort::Query => &[IMAGE_SIZE, 13],
+        Sort::Checkpoint => &[IMAGE_SIZE],
+    };
+    if !sizes.starts_with(whole) {
+        return Err(format!("takes slices of {sizes:?} bytes"));
+    }
+    match expected(call, number, written) == written {
+        true => Ok(()),
+        false => Err("wrote other bytes than it should".to_string()),
+    }
+}
+
+fn expected(call: &Call, number: u32, written: &[u8]) -> Vec<u8> {
+    let mut out = call.slices[0].clone();
+    match (call.sort, number) {
+        (Sort::Checkpoint, _) => out.truncate(CHECKPOINT_SIZE),
+        // "Misses 0, no vote." The start record has seat and life behind its four bytes.
+        (Sort::Start, _) => {
+            out.extend(&call.slices[1][4..]);
+            out.resize(IMAGE_SIZE, 0);
+        }
+        (Sort::Deliver, VOTED) => {
+            out[VOTED_AT] = 1;
+            out[VOTE_AT..MISSES_AT].copy_from_slice(&call.slices[1]);
+        }
+        (Sort::Deliver, _) => performed(&mut out, &call.slices[1], written),
+        // "19, 20 and 21 add a miss; open sets misses to 0"
+        (Sort::Query, 0) => out[MISSES_AT] = 0,
+        (Sort::Query, _) => out[MISSES_AT] = out[MISSES_AT].wrapping_add(1),
+    }
+    out
+}
+
+/// "cycle plus 1, day as announced, vote cleared, misses 0"; the numbers of trustees stay.
+fn performed(image: &mut [u8], announcement: &[u8], written: &[u8]) {
+    let cycle = u32::from_le_bytes([image[4], image[5], image[6], image[7]]);
+    image[14..OWN_AT].copy_from_slice(&written[14..OWN_AT]);
+    image[4..8].copy_from_slice(&cycle.wrapping_add(1).to_le_bytes());
+    image[8..12].copy_from_slice(&announcement[8..12]);
+    image[VOTED_AT..].fill(0);
+}

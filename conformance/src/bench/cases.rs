@@ -1,8 +1,8 @@
 //! The measured calls, on a full state and on a small one.
 
-use crate::history::call::{Records, VOTED};
-use crate::history::records;
-use crate::history::view::{Login, Own, Proposal, Seat, View, FREE, PRESENT};
+use crate::compare::call::{Records, VOTED};
+use crate::compare::fields::{Login, OwnFields, Proposal, Seat, StateFields, FREE, PRESENT};
+use crate::compare::make::records;
 
 pub struct Case {
     pub name: &'static str,
@@ -45,8 +45,8 @@ pub const SMALL: Size = Size {
 };
 
 impl Size {
-    fn view(&self) -> View {
-        View {
+    fn state(&self) -> StateFields {
+        StateFields {
             cycle: CYCLE,
             day: DAY,
             levels: [8, 8],
@@ -61,12 +61,12 @@ impl Size {
 
     /// The calls, each as often as it has another way to end.
     pub fn cases(&self) -> Vec<Case> {
-        let remove = announcement(6, [self.proposals - 1, 0, 0, 0, 0, 0, 0, 0, 0, 0, 0, 0]);
+        let remove = announcement(6, records::arguments(&[self.proposals - 1]));
         let grant = announcement(8, records::grant(500 * self.logins, DAY + 200, 3));
         let end = announcement(9, records::arguments(&500u32.to_le_bytes()));
         let late = announcement(9, records::arguments(&1u32.to_le_bytes()));
         let start = Records::Start {
-            checkpoint: self.view().write(),
+            checkpoint: self.state().write(),
             start: records::start(0, LIFE),
         };
         vec![
@@ -83,17 +83,21 @@ impl Size {
         ]
     }
 
-    fn case(&self, name: &'static str, records: Records, number: u32) -> Case {
-        let own = Own {
+    /// The image that every case begins with.
+    pub fn image(&self) -> Vec<u8> {
+        let own = OwnFields {
             seat: 0,
             life: LIFE,
             vote: None,
             misses: 3,
         };
-        let image = own.image(&self.view());
+        own.image(&self.state())
+    }
+
+    fn case(&self, name: &'static str, records: Records, number: u32) -> Case {
         Case {
             name,
-            image,
+            image: self.image(),
             records,
             number,
         }

@@ -92,8 +92,10 @@ pub const QUERY: [Field; 3] = [ANY_LOGIN, DAY, number("right", 1, 0, 15)];
 /// Of a sheet; the row count and the rows follow.
 pub const MASKS: [Field; 2] = [bits("level-1", 1, 0), bits("level-2", 1, 0)];
 pub const ROW: [Field; 2] = [SEAT, LIFE];
-/// Of an announcement and of a proposal's row; the action follows.
+/// Of an announcement; the action follows.
 pub const CYCLE_AND_DAY: [Field; 2] = [CYCLE, DAY];
+/// Of a proposal's row; the subject's arguments follow.
+pub const PROPOSAL: [Field; 3] = [CYCLE, DAY, SUBJECT_KIND];
 pub const LOGIN: [Field; 3] = [
     number("login", 4, 1, MAX),
     number("end", 4, 0, MAX),
@@ -174,7 +176,7 @@ pub const SEATS: Table = Table {
 pub const PROPOSALS: Table = Table {
     at: SEATS.end() + 1,
     most: 16,
-    size: size(&CYCLE_AND_DAY) + SUBJECT_KIND.size + SUBJECT_SIZE,
+    size: size(&PROPOSAL) + SUBJECT_SIZE,
 };
 pub const LOGINS: Table = Table {
     at: PROPOSALS.end() + 1,
@@ -231,11 +233,18 @@ pub fn read<const N: usize>(fields: &[Field; N], bytes: &[u8], mut at: usize) ->
 
 /// The bytes of values, one behind the other.
 pub fn write(fields: &[Field], values: &[u32]) -> Vec<u8> {
-    let mut out = Vec::new();
-    for (field, value) in fields.iter().zip(values) {
-        out.extend(&value.to_le_bytes()[..field.size]);
-    }
+    let mut out = vec![0; size(fields)];
+    put(fields, values, &mut out, 0);
     out
+}
+
+/// Writes values over the bytes from a place on.
+pub fn put(fields: &[Field], values: &[u32], bytes: &mut [u8], mut at: usize) {
+    for (field, value) in fields.iter().zip(values) {
+        let end = at + field.size;
+        bytes[at..end].copy_from_slice(&value.to_le_bytes()[..field.size]);
+        at = end;
+    }
 }
 
 /// "A record is a 2-byte length (of what follows it), a 2-byte kind, a body."

@@ -103,11 +103,13 @@ impl Records {
     }
 }
 
+type Deliver = fn(&[u8], &[u8], &[u8], &mut [u8]) -> u32;
+
 /// The four calls of one implementation, as C sees them.
 pub struct Calls {
     pub name: &'static str,
     pub start: fn(&[u8], &[u8], &mut [u8]) -> u32,
-    pub deliver: fn(&[u8], &[u8], &[u8], &mut [u8]) -> u32,
+    pub deliver: Deliver,
     pub query: fn(&[u8], &[u8], &mut [u8]) -> u32,
     pub checkpoint: fn(&[u8], &mut [u8]) -> u32,
 }

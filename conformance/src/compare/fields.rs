@@ -1,9 +1,11 @@
 //! The fields of checkpoints and images, to look at the state that a call will meet. Nothing here
 //! checks what it reads or writes: malformed checkpoints are made with it too.
 
-use crate::layout::{self, number_at, CHECKPOINT, CHECKPOINT_KIND, CHECKPOINT_SIZE, IMAGE_SIZE};
-use crate::layout::{CYCLE_AND_DAY, LOGIN, LOGINS, MISSES_AT, OWN, PROPOSALS, ROW, ROWS, ROW_SIZE};
-use crate::layout::{SEATS, SEAT_ROW, SUBJECT_KIND, SUBJECT_SIZE, VOTE, VOTED_AT};
+use crate::layout::{
+    self, CHECKPOINT, CHECKPOINT_KIND, CHECKPOINT_SIZE, IMAGE_SIZE, LOGIN, LOGINS,
+};
+use crate::layout::{MISSES_AT, OWN, PROPOSAL, PROPOSALS, ROW, ROWS, ROW_SIZE, SEATS, SEAT_ROW};
+use crate::layout::{SUBJECT_SIZE, VOTE, VOTED_AT};
 
 pub const FREE: u8 = 0;
 pub const CERTIFIED: u8 = 1;
@@ -113,19 +115,19 @@ impl StateFields {
             self.silence.into(),
         ];
         let mut bytes = layout::record(CHECKPOINT_KIND, &[0; CHECKPOINT_SIZE - layout::BODY]);
-        put(&mut bytes, layout::BODY, &layout::write(&CHECKPOINT, &head));
+        layout::put(&CHECKPOINT, &head, &mut bytes, layout::BODY);
         for (i, seat) in self.seats.iter().enumerate() {
-            let row = layout::write(&SEAT_ROW, &[seat.standing.into(), seat.life]);
-            put(&mut bytes, SEATS.row(i), &row);
+            let row = [seat.standing.into(), seat.life];
+            layout::put(&SEAT_ROW, &row, &mut bytes, SEATS.row(i));
         }
         bytes[PROPOSALS.count_at()] = self.proposals.len() as u8;
         for (i, row) in self.proposals.iter().take(PROPOSALS.most).enumerate() {
-            put(&mut bytes, PROPOSALS.row(i), &row.write());
+            row.write(&mut bytes[PROPOSALS.row(i)..]);
         }
         bytes[LOGINS.count_at()] = self.logins.len() as u8;
         for (i, row) in self.logins.iter().take(LOGINS.most).enumerate() {
-            let row = layout::write(&LOGIN, &[row.login, row.end, row.rights.into()]);
-            put(&mut bytes, LOGINS.row(i), &row);
+            let row = [row.login, row.end, row.rights.into()];
+            layout::put(&LOGIN, &row, &mut bytes, LOGINS.row(i));
         }
         bytes
     }
@@ -173,23 +175,20 @@ fn read_seat(bytes: &[u8], at: usize) -> Seat {
 }
 
 fn read_proposal(bytes: &[u8], at: usize) -> Proposal {
-    let [cycle, day] = layout::read(&CYCLE_AND_DAY, bytes, at);
-    let kind = at + layout::size(&CYCLE_AND_DAY);
-    let arguments = kind + SUBJECT_KIND.size;
+    let [cycle, day, kind] = layout::read(&PROPOSAL, bytes, at);
+    let arguments = at + layout::size(&PROPOSAL);
     Proposal {
         cycle,
         day,
-        kind: number_at(bytes, kind, SUBJECT_KIND.size) as u16,
+        kind: kind as u16,
         arguments: std::array::from_fn(|i| bytes[arguments + i]),
     }
 }
 
 impl Proposal {
-    fn write(&self) -> Vec<u8> {
-        let mut row = layout::write(&CYCLE_AND_DAY, &[self.cycle, self.day]);
-        row.extend(self.kind.to_le_bytes());
-        row.extend(self.arguments);
-        row
+    fn write(&self, row: &mut [u8]) {
+        layout::put(&PROPOSAL, &[self.cycle, self.day, self.kind.into()], row, 0);
+        put(row, layout::size(&PROPOSAL), &self.arguments);
     }
 }
 

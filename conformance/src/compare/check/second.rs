@@ -3,10 +3,12 @@
 
 use crate::compare::call::Calls;
 
+type Started = Result<Box<dyn ByValue>, u32>;
+
 pub struct Second {
     pub calls: Calls,
     /// Starts a node by value, or gives the number of the refusal.
-    pub start: fn(&[u8], &[u8]) -> Result<Box<dyn ByValue>, u32>,
+    pub start: fn(&[u8], &[u8]) -> Started,
     pub from_image: fn(&[u8]) -> Option<Box<dyn ByValue>>,
     /// What node-run prints.
     pub node_run: fn(&[u8]) -> Vec<u8>,

@@ -47,7 +47,7 @@ fn bytes(hex: &str) -> Result<Vec<u8>, String> {
     if hex == "-" {
         return Ok(Vec::new());
     }
-    if hex.len() % 2 != 0 || !hex.is_ascii() {
+    if !hex.len().is_multiple_of(2) || !hex.is_ascii() {
         return Err(format!("not hexadecimal: {hex}"));
     }
     let pairs = (0..hex.len() / 2).map(|i| u8::from_str_radix(&hex[2 * i..2 * i + 2], 16));

@@ -34,6 +34,6 @@ fn number() -> usize {
 }
 
 #[allow(warnings, clippy::all)]
-pub mod paper {
+pub(crate) mod paper {
     include!(concat!(env!("OUT_DIR"), "/paper.rs"));
 }

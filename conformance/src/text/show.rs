@@ -5,10 +5,11 @@ mod checkpoint;
 mod own;
 mod records;
 
-use crate::layout::{framed, kind_of, CHECKPOINT_KIND, CHECKPOINT_SIZE, IMAGE_SIZE};
+use crate::layout::{framed, kind_of, number_at, CHECKPOINT_KIND, CHECKPOINT_SIZE, IMAGE_SIZE};
+use crate::layout::{QUERY, QUERY_KIND, SHEET_KIND, START, START_KIND};
 use bytes::{malformed, Read};
 use checkpoint::checkpoint;
-use records::record;
+use records::{announcement, sheet, simple};
 
 /// How many bytes stand on a line: an announcement has as many.
 const ON_A_LINE: usize = 24;
@@ -62,6 +63,29 @@ pub fn parts_of_records(input: &[u8]) -> Vec<Part<'_>> {
         at += bytes.len();
     }
     parts
+}
+
+/// The text of a record that was framed by its length, with its line ends.
+fn record(bytes: &[u8]) -> Read<String> {
+    if bytes.len() < 2 {
+        return malformed(bytes.len(), "the input ends within a length");
+    }
+    let length = number_at(bytes, 0, 2) as usize;
+    if bytes.len() < 2 + length {
+        let why = format!("the input ends within a record of {} bytes", 2 + length);
+        return malformed(bytes.len(), why);
+    }
+    if length < 2 {
+        return malformed(0, format!("length {length} has no room for a kind"));
+    }
+    match kind_of(bytes) {
+        1..=9 => announcement(bytes),
+        CHECKPOINT_KIND => checkpoint(bytes),
+        SHEET_KIND => sheet(bytes),
+        START_KIND => simple("start", &START, bytes),
+        QUERY_KIND => simple("query", &QUERY, bytes),
+        kind => malformed(2, format!("kind {kind} is not that of a record")),
+    }
 }
 
 pub fn parts_of_image(input: &[u8]) -> Vec<Part<'_>> {

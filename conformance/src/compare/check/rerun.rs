@@ -5,8 +5,8 @@ use super::hosts::Hosts;
 use super::second::Second;
 use crate::compare::call::{Event, History};
 
-/// Runs a history again; `show` sees each call's place before it is made, and its event after it, or
-/// none where it was not made. An error has the place of the call that fails.
+/// Runs a history again; `show` sees each call's place and its event, or none where it was not made.
+/// An error has the place of the call that fails.
 pub fn again(
     second: &'static Second,
     history: &History,

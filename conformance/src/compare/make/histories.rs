@@ -170,38 +170,46 @@ impl HistoryMaker {
             let place = late + self.rng.below(self.sent.len() - late);
             return self.within_bound(image, state, self.sent[place].clone());
         }
-        let chosen = self.chosen.get(&image[..CHECKPOINT_SIZE]);
+        let chosen = self.chosen.get(&image[..CHECKPOINT_SIZE]).cloned();
+        let mut announcement = self.announcement(state, own, chosen.as_ref());
+        // Beyond the bound with as few double voters as there can be: first the seats that did not
+        // count for the chosen one.
+        let voters = match chosen {
+            Some((_, counted)) if !self.habits.honest && self.rng.chance(50) => {
+                others(state, counted)
+            }
+            _ => voters(hosts, &announcement),
+        };
+        let aim = sheets::any_aim(&mut self.rng);
+        let kind = kind_of(&announcement);
+        let mut sheet = sheets::sheet(&mut self.rng, state, kind, aim, &voters);
+        self.damage(&mut announcement);
+        if self.rng.chance(self.habits.damage) {
+            malformed::sheet(&mut self.rng, &mut sheet);
+        }
+        let delivery = Records::Deliver {
+            announcement,
+            sheet,
+        };
+        self.within_bound(image, state, delivery)
+    }
+
+    /// The one chosen for the state, the one that the node voted for, or another.
+    fn announcement(
+        &mut self,
+        state: &StateFields,
+        own: &OwnFields,
+        chosen: Option<&(Vec<u8>, u32)>,
+    ) -> Vec<u8> {
         let follow = if self.habits.honest { 65 } else { 40 };
-        let mut announcement = match (chosen, &own.vote) {
+        match (chosen, &own.vote) {
             (Some((chosen, _)), _) if self.rng.chance(follow) => chosen.clone(),
             (_, Some(vote)) if self.rng.chance(40) => vote.clone(),
             _ if self.habits.focus > 0 && self.rng.chance(50) => {
                 ended_logins::announcement(&mut self.rng, state, self.habits.focus)
             }
             _ => announcements::any(&mut self.rng, state),
-        };
-        // Beyond the bound with as few double voters as there can be: first the seats that did not
-        // count for the chosen one.
-        let voters = match chosen {
-            Some((_, counted)) if !self.habits.honest && self.rng.chance(50) => {
-                others(state, *counted)
-            }
-            _ => voters(hosts, &announcement),
-        };
-        let aim = sheets::any_aim(&mut self.rng);
-        let mut sheet = sheets::sheet(&mut self.rng, state, kind_of(&announcement), aim, &voters);
-        self.damage(&mut announcement);
-        if self.rng.chance(self.habits.damage) {
-            malformed::sheet(&mut self.rng, &mut sheet);
         }
-        self.within_bound(
-            image,
-            state,
-            Records::Deliver {
-                announcement,
-                sheet,
-            },
-        )
     }
 
     /// In an honest history, a delivery that would perform another announcement than the chosen one

@@ -1,37 +1,10 @@
 //! Announcement, sheet, start and query to text: a line each.
 
 use super::bytes::{malformed, Bytes, Read};
-use super::checkpoint;
-use crate::layout::SUBJECT_KIND;
-use crate::layout::{
-    kind_of, number_at, size, Field, ACTIONS, ANNOUNCEMENT_SIZE, ARGUMENTS_SIZE, BODY,
-};
-use crate::layout::{CHECKPOINT_KIND, QUERY_KIND, SHEET_KIND, START_KIND, SUBJECT_SIZE};
-use crate::layout::{CYCLE_AND_DAY, LIFE, MASKS, QUERY, ROWS, ROW_COUNT, ROW_SIZE, SEAT, START};
+use crate::layout::{kind_of, number_at, size, Field, ACTIONS, ANNOUNCEMENT_SIZE, ARGUMENTS_SIZE};
+use crate::layout::{BODY, CYCLE_AND_DAY, LIFE, MASKS, ROWS, ROW_COUNT, ROW_SIZE, SEAT};
+use crate::layout::{SUBJECT_KIND, SUBJECT_SIZE};
 use std::ops::RangeInclusive;
-
-/// The text of a record that was framed by its length, with its line ends.
-pub fn record(bytes: &[u8]) -> Read<String> {
-    if bytes.len() < 2 {
-        return malformed(bytes.len(), "the input ends within a length");
-    }
-    let length = number_at(bytes, 0, 2) as usize;
-    if bytes.len() < 2 + length {
-        let why = format!("the input ends within a record of {} bytes", 2 + length);
-        return malformed(bytes.len(), why);
-    }
-    if length < 2 {
-        return malformed(0, format!("length {length} has no room for a kind"));
-    }
-    match kind_of(bytes) {
-        1..=9 => announcement(bytes),
-        CHECKPOINT_KIND => checkpoint::checkpoint(bytes),
-        SHEET_KIND => sheet(bytes),
-        START_KIND => simple("start", &START, bytes),
-        QUERY_KIND => simple("query", &QUERY, bytes),
-        kind => malformed(2, format!("kind {kind} is not that of a record")),
-    }
-}
 
 pub fn require_length(bytes: &[u8], length: usize) -> Read<()> {
     let found = number_at(bytes, 0, 2) as usize;
@@ -52,7 +25,7 @@ pub fn require_kind(bytes: &[u8], kinds: RangeInclusive<u16>) -> Read<()> {
 }
 
 /// Start and query: a word and fields.
-fn simple(name: &str, fields: &[Field], bytes: &[u8]) -> Read<String> {
+pub fn simple(name: &str, fields: &[Field], bytes: &[u8]) -> Read<String> {
     require_length(bytes, BODY - 2 + size(fields))?;
     let mut text = name.to_string();
     Bytes::new(bytes, BODY).fields(fields, &mut text)?;
@@ -95,7 +68,7 @@ pub fn subject(bytes: &mut Bytes, text: &mut String) -> Read<()> {
 
 /// "level-1 mask (1), level-2 mask (1), row count 0 to 64 (1), rows of seat (1, below 32) and life
 /// (4)"
-fn sheet(bytes: &[u8]) -> Read<String> {
+pub fn sheet(bytes: &[u8]) -> Read<String> {
     let length = number_at(bytes, 0, 2);
     let mut text = "sheet".to_string();
     let mut bytes = Bytes::new(bytes, BODY);

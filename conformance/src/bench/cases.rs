@@ -65,10 +65,7 @@ impl Size {
         let grant = announcement(8, records::grant(500 * self.logins, DAY + 200, 3));
         let end = announcement(9, records::arguments(&500u32.to_le_bytes()));
         let late = announcement(9, records::arguments(&1u32.to_le_bytes()));
-        let start = Records::Start {
-            checkpoint: self.state().write(),
-            start: records::start(0, LIFE),
-        };
+        let start = Records::Start(self.state().write(), records::start(0, LIFE));
         vec![
             self.case("start", start, 0),
             self.case("deliver: remove done", self.deliver(&remove, self.rows), 0),
@@ -105,10 +102,7 @@ impl Size {
 
     fn deliver(&self, announcement: &[u8], rows: u8) -> Records {
         let rows: Vec<(u8, u32)> = (0..rows).map(|i| (i % self.seats, LIFE)).collect();
-        Records::Deliver {
-            announcement: announcement.to_vec(),
-            sheet: records::sheet([255, 255], &rows),
-        }
+        Records::Deliver(announcement.to_vec(), records::sheet([255, 255], &rows))
     }
 }
 
@@ -148,7 +142,5 @@ fn announcement(kind: u16, arguments: [u8; 12]) -> Vec<u8> {
 }
 
 fn query(login: u32, day: u32) -> Records {
-    Records::Query {
-        query: records::query(login, day, 0),
-    }
+    Records::Query(records::query(login, day, 0))
 }

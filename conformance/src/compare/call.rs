@@ -7,17 +7,11 @@ use crate::layout::{CHECKPOINT_SIZE, IMAGE_SIZE};
 /// The records handed to a call at a host.
 #[derive(Clone, PartialEq, Debug)]
 pub enum Records {
-    Start {
-        checkpoint: Vec<u8>,
-        start: Vec<u8>,
-    },
-    Deliver {
-        announcement: Vec<u8>,
-        sheet: Vec<u8>,
-    },
-    Query {
-        query: Vec<u8>,
-    },
+    /// A checkpoint and a start.
+    Start(Vec<u8>, Vec<u8>),
+    /// An announcement and a sheet.
+    Deliver(Vec<u8>, Vec<u8>),
+    Query(Vec<u8>),
     Checkpoint,
 }
 
@@ -76,15 +70,25 @@ impl Records {
     /// The place of the call in `CALLS`.
     pub fn index(&self) -> usize {
         match self {
-            Records::Start { .. } => 0,
-            Records::Deliver { .. } => 1,
-            Records::Query { .. } => 2,
+            Records::Start(..) => 0,
+            Records::Deliver(..) => 1,
+            Records::Query(..) => 2,
             Records::Checkpoint => 3,
         }
     }
 
     pub fn name(&self) -> &'static str {
         CALLS[self.index()]
+    }
+
+    /// The records as node-run takes them: a start comes before its checkpoint.
+    pub fn in_order(&self) -> Vec<&Vec<u8>> {
+        match self {
+            Records::Start(checkpoint, start) => vec![start, checkpoint],
+            Records::Deliver(announcement, sheet) => vec![announcement, sheet],
+            Records::Query(query) => vec![query],
+            Records::Checkpoint => vec![],
+        }
     }
 
     /// The bytes that a whole output needs.
@@ -98,7 +102,7 @@ impl Records {
 
     /// Whether a call that answers `number` writes its output: a query also for a miss.
     pub fn writes(&self, number: u32) -> bool {
-        let is_miss = matches!(self, Records::Query { .. }) && (19..=21).contains(&number);
+        let is_miss = matches!(self, Records::Query(..)) && (19..=21).contains(&number);
         number == 0 || number == VOTED || is_miss
     }
 }
@@ -127,12 +131,11 @@ impl Calls {
     /// Makes the call that takes these records; a start takes no image.
     pub fn make(&self, image: &[u8], records: &Records, out: &mut [u8]) -> u32 {
         match records {
-            Records::Start { checkpoint, start } => (self.start)(checkpoint, start, out),
-            Records::Deliver {
-                announcement,
-                sheet,
-            } => (self.deliver)(image, announcement, sheet, out),
-            Records::Query { query } => (self.query)(image, query, out),
+            Records::Start(checkpoint, start) => (self.start)(checkpoint, start, out),
+            Records::Deliver(announcement, sheet) => {
+                (self.deliver)(image, announcement, sheet, out)
+            }
+            Records::Query(query) => (self.query)(image, query, out),
             Records::Checkpoint => (self.checkpoint)(image, out),
         }
     }

@@ -83,7 +83,10 @@ impl StateFields {
         }
         let [cycle, day, level_1, level_2, margin, least, silence] =
             layout::read(&CHECKPOINT, bytes, layout::BODY);
-        let used = |table: &layout::Table| 0..table.most.min(bytes[table.count_at()].into());
+        let used = |table: &layout::Table| {
+            let rows = bytes[table.at..table.end()].chunks(table.size);
+            rows.take(bytes[table.count_at()].into())
+        };
         Some(StateFields {
             cycle,
             day,
@@ -91,44 +94,35 @@ impl StateFields {
             margin: margin as u8,
             least: least as u8,
             silence: silence as u16,
-            seats: std::array::from_fn(|i| read_seat(bytes, SEATS.row(i))),
-            proposals: used(&PROPOSALS)
-                .map(|i| read_proposal(bytes, PROPOSALS.row(i)))
-                .collect(),
-            logins: used(&LOGINS)
-                .map(|i| read_login(bytes, LOGINS.row(i)))
-                .collect(),
+            seats: std::array::from_fn(|i| Seat::read(&bytes[SEATS.row(i)..])),
+            proposals: used(&PROPOSALS).map(Proposal::read).collect(),
+            logins: used(&LOGINS).map(Login::read).collect(),
         })
     }
 
     /// The checkpoint's bytes; rows that a table has no room for are left out.
     pub fn write(&self) -> Vec<u8> {
-        let [level_1, level_2] = self.levels.map(u32::from);
-        let (margin, least) = (self.margin.into(), self.least.into());
+        let mut bytes = layout::record(CHECKPOINT_KIND, &[0; CHECKPOINT_SIZE - layout::BODY]);
         let head = [
             self.cycle,
             self.day,
-            level_1,
-            level_2,
-            margin,
-            least,
+            self.levels[0].into(),
+            self.levels[1].into(),
+            self.margin.into(),
+            self.least.into(),
             self.silence.into(),
         ];
-        let mut bytes = layout::record(CHECKPOINT_KIND, &[0; CHECKPOINT_SIZE - layout::BODY]);
         layout::put(&CHECKPOINT, &head, &mut bytes, layout::BODY);
-        for (i, seat) in self.seats.iter().enumerate() {
-            let row = [seat.standing.into(), seat.life];
-            layout::put(&SEAT_ROW, &row, &mut bytes, SEATS.row(i));
-        }
+        let seats = bytes[SEATS.at..].chunks_mut(SEATS.size).zip(&self.seats);
+        seats.for_each(|(row, seat)| seat.write(row));
         bytes[PROPOSALS.count_at()] = self.proposals.len() as u8;
-        for (i, row) in self.proposals.iter().take(PROPOSALS.most).enumerate() {
-            row.write(&mut bytes[PROPOSALS.row(i)..]);
-        }
+        let rows = bytes[PROPOSALS.at..PROPOSALS.end()].chunks_mut(PROPOSALS.size);
+        rows.zip(&self.proposals)
+            .for_each(|(row, used)| used.write(row));
         bytes[LOGINS.count_at()] = self.logins.len() as u8;
-        for (i, row) in self.logins.iter().take(LOGINS.most).enumerate() {
-            let row = [row.login, row.end, row.rights.into()];
-            layout::put(&LOGIN, &row, &mut bytes, LOGINS.row(i));
-        }
+        let rows = bytes[LOGINS.at..LOGINS.end()].chunks_mut(LOGINS.size);
+        rows.zip(&self.logins)
+            .for_each(|(row, used)| used.write(row));
         bytes
     }
 
@@ -168,34 +162,47 @@ pub fn put(bytes: &mut [u8], at: usize, new: &[u8]) {
     bytes[at..at + new.len()].copy_from_slice(new);
 }
 
-fn read_seat(bytes: &[u8], at: usize) -> Seat {
-    let [standing, life] = layout::read(&SEAT_ROW, bytes, at);
-    let standing = standing as u8;
-    Seat { standing, life }
-}
+impl Seat {
+    fn read(row: &[u8]) -> Seat {
+        let [standing, life] = layout::read(&SEAT_ROW, row, 0);
+        let standing = standing as u8;
+        Seat { standing, life }
+    }
 
-fn read_proposal(bytes: &[u8], at: usize) -> Proposal {
-    let [cycle, day, kind] = layout::read(&PROPOSAL, bytes, at);
-    let arguments = at + layout::size(&PROPOSAL);
-    Proposal {
-        cycle,
-        day,
-        kind: kind as u16,
-        arguments: std::array::from_fn(|i| bytes[arguments + i]),
+    fn write(&self, row: &mut [u8]) {
+        layout::put(&SEAT_ROW, &[self.standing.into(), self.life], row, 0);
     }
 }
 
 impl Proposal {
+    fn read(row: &[u8]) -> Proposal {
+        let [cycle, day, kind] = layout::read(&PROPOSAL, row, 0);
+        let arguments = layout::size(&PROPOSAL);
+        Proposal {
+            cycle,
+            day,
+            kind: kind as u16,
+            arguments: std::array::from_fn(|i| row[arguments + i]),
+        }
+    }
+
     fn write(&self, row: &mut [u8]) {
         layout::put(&PROPOSAL, &[self.cycle, self.day, self.kind.into()], row, 0);
         put(row, layout::size(&PROPOSAL), &self.arguments);
     }
 }
 
-fn read_login(bytes: &[u8], at: usize) -> Login {
-    let [login, end, rights] = layout::read(&LOGIN, bytes, at);
-    let rights = rights as u16;
-    Login { login, end, rights }
+impl Login {
+    fn read(row: &[u8]) -> Login {
+        let [login, end, rights] = layout::read(&LOGIN, row, 0);
+        let rights = rights as u16;
+        Login { login, end, rights }
+    }
+
+    fn write(&self, row: &mut [u8]) {
+        let values = [self.login, self.end, self.rights.into()];
+        layout::put(&LOGIN, &values, row, 0);
+    }
 }
 
 /// A node's own part: what an image holds behind its checkpoint.

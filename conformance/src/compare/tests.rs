@@ -38,10 +38,7 @@ fn performed(state: &StateFields, announcement: Vec<u8>, seats: &[(u8, u32)]) ->
     [_, after.day] = read(&CYCLE_AND_DAY, &announcement, BODY);
     event(
         state,
-        Records::Deliver {
-            announcement,
-            sheet: records::sheet([1, 1], seats),
-        },
+        Records::Deliver(announcement, records::sheet([1, 1], seats)),
         &after,
     )
 }
@@ -116,10 +113,7 @@ fn a_start_from_elsewhere_is_not_lawful() {
     let first = StateFields::printed_run();
     let mut other = first.clone();
     other.day = 1;
-    let start = |state: &StateFields| Records::Start {
-        checkpoint: state.write(),
-        start: records::start(0, 1),
-    };
+    let start = |state: &StateFields| Records::Start(state.write(), records::start(0, 1));
     assert!(
         claims_of(&[event(&first, start(&first), &first)])
             .unwrap()
@@ -144,15 +138,8 @@ fn an_ended_login_open_beyond_the_limit_is_seen() {
     last.cycle = 3;
     let end = || performed(&first, about(9, &first, 101), &[(0, 1), (1, 1)]);
     let grant = || performed(&later, about(8, &later, 101), &[(0, 1), (1, 1)]);
-    let ask = |state: &StateFields, day| {
-        event(
-            state,
-            Records::Query {
-                query: records::query(7, day, 0),
-            },
-            state,
-        )
-    };
+    let ask =
+        |state: &StateFields, day| event(state, Records::Query(records::query(7, day, 0)), state);
     assert_eq!(claims_of(&[end(), ask(&later, 131)]).unwrap().at_limit, 1);
     assert!(claims_of(&[end(), ask(&later, 132)]).is_err());
     assert!(claims_of(&[ask(&later, 132), end()]).is_err());

@@ -86,18 +86,15 @@ impl Claims {
             return Ok(());
         };
         match &event.request.records {
-            Records::Start { checkpoint, .. } => {
+            Records::Start(checkpoint, _) => {
                 self.lawful &= *checkpoint == self.first || self.given.contains(checkpoint);
                 self.note_state(written)
             }
-            Records::Deliver {
-                announcement,
-                sheet,
-            } => {
+            Records::Deliver(announcement, sheet) => {
                 self.note_performed(&event.request.image, announcement, sheet)?;
                 self.note_state(written)
             }
-            Records::Query { query } => {
+            Records::Query(query) => {
                 let asked = StateFields::read(&event.request.image);
                 let asked = asked.ok_or("a short image answers open")?;
                 let [login, day, _] = layout::read(&QUERY, query, BODY);

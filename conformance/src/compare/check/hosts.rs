@@ -41,7 +41,7 @@ impl Hosts {
     /// shortened history may ask for that.
     pub fn step(&mut self, call: &Call) -> Result<Option<Event>, String> {
         let image = self.image(call.host).unwrap_or_default();
-        if image.is_empty() && !matches!(call.records, Records::Start { .. }) {
+        if image.is_empty() && !matches!(call.records, Records::Start(..)) {
             return Ok(None);
         }
         let host = &mut self.hosts[call.host];

@@ -66,7 +66,7 @@ pub fn by_value(
     outcome: &Outcome,
 ) -> Result<Held, String> {
     guarded(|| match &request.records {
-        Records::Start { checkpoint, start } => {
+        Records::Start(checkpoint, start) => {
             start_by_value(second, held, (checkpoint, start), outcome)
         }
         _ => call_by_value(held, request, outcome),
@@ -100,11 +100,8 @@ fn call_by_value(held: Held, request: &Request, outcome: &Outcome) -> Result<Hel
         };
     };
     let number = match &request.records {
-        Records::Deliver {
-            announcement,
-            sheet,
-        } => node.deliver(announcement, sheet),
-        Records::Query { query } => node.query(query),
+        Records::Deliver(announcement, sheet) => node.deliver(announcement, sheet),
+        Records::Query(query) => node.query(query),
         _ => return same_checkpoint(node, outcome),
     };
     let image = outcome.written.as_deref().or(Some(&request.image));

@@ -77,10 +77,7 @@ impl HistoryMaker {
             return;
         };
         match &event.request.records {
-            Records::Deliver {
-                announcement,
-                sheet,
-            } => {
+            Records::Deliver(announcement, sheet) => {
                 let state = event.request.image[..CHECKPOINT_SIZE].to_vec();
                 let counted = StateFields::read(&state).map_or(0, |state| state.counted(sheet));
                 self.chosen
@@ -115,7 +112,7 @@ impl HistoryMaker {
                 _ => starts_queries::query(&mut self.rng, &state),
             };
             self.damage(&mut query);
-            return Records::Query { query };
+            return Records::Query(query);
         }
         let delivery = self.deliver(hosts, image, &state, &own);
         self.sent.push(delivery.clone());
@@ -145,15 +142,13 @@ impl HistoryMaker {
         }
         let mut start = starts_queries::start(&mut self.rng, &state);
         self.damage(&mut start);
-        Records::Start { checkpoint, start }
+        Records::Start(checkpoint, start)
     }
 
     fn bad_query(&mut self, image: &[u8]) -> Records {
         self.bad_queries.1 -= 1;
         match StateFields::read(image) {
-            Some(state) => Records::Query {
-                query: starts_queries::bad_query(&mut self.rng, &state),
-            },
+            Some(state) => Records::Query(starts_queries::bad_query(&mut self.rng, &state)),
             None => Records::Checkpoint,
         }
     }
@@ -187,10 +182,7 @@ impl HistoryMaker {
         if self.rng.chance(self.habits.damage) {
             malformed::sheet(&mut self.rng, &mut sheet);
         }
-        let delivery = Records::Deliver {
-            announcement,
-            sheet,
-        };
+        let delivery = Records::Deliver(announcement, sheet);
         self.within_bound(image, state, delivery)
     }
 
@@ -215,11 +207,7 @@ impl HistoryMaker {
     /// In an honest history, a delivery that would perform another announcement than the chosen one
     /// gets one seat less than a quorum.
     fn within_bound(&mut self, image: &[u8], state: &StateFields, delivery: Records) -> Records {
-        let Records::Deliver {
-            announcement,
-            sheet,
-        } = &delivery
-        else {
+        let Records::Deliver(announcement, sheet) = &delivery else {
             return delivery;
         };
         let other = self
@@ -236,10 +224,7 @@ impl HistoryMaker {
         }
         let kind = kind_of(announcement);
         let sheet = sheets::sheet(&mut self.rng, state, kind, Aim::OneLess, &[]);
-        Records::Deliver {
-            announcement: announcement.clone(),
-            sheet,
-        }
+        Records::Deliver(announcement.clone(), sheet)
     }
 }
 

@@ -48,10 +48,7 @@ pub fn ends() -> Vec<Request> {
         let sheet = records::sheet([1, 0], &[(0, 1), (1, 1)]);
         Request {
             image: own.image(state),
-            records: Records::Deliver {
-                announcement,
-                sheet,
-            },
+            records: Records::Deliver(announcement, sheet),
             out: IMAGE_SIZE,
         }
     };
@@ -65,16 +62,14 @@ fn any_request(rng: &mut Random, state: &StateFields, own: &OwnFields) -> Reques
     }
     let mut records = match rng.below(20) {
         0..=10 => deliver(rng, state, own),
-        11..=14 => Records::Query {
-            query: starts_queries::query(rng, state),
-        },
+        11..=14 => Records::Query(starts_queries::query(rng, state)),
         15..=18 => start(rng, state),
         _ => Records::Checkpoint,
     };
     if rng.chance(8) {
         damage(rng, &mut records);
     }
-    if matches!(records, Records::Start { .. }) {
+    if matches!(records, Records::Start(..)) {
         image.clear();
     }
     let out = starts_queries::out_length(rng, records.size(), 4);
@@ -102,10 +97,7 @@ fn deliver(rng: &mut Random, state: &StateFields, own: &OwnFields) -> Records {
     };
     let aim = sheets::any_aim(rng);
     let sheet = sheets::sheet(rng, state, kind_of(&announcement), aim, &[]);
-    Records::Deliver {
-        announcement,
-        sheet,
-    }
+    Records::Deliver(announcement, sheet)
 }
 
 fn start(rng: &mut Random, state: &StateFields) -> Records {
@@ -114,20 +106,15 @@ fn start(rng: &mut Random, state: &StateFields) -> Records {
     } else {
         state.write()
     };
-    Records::Start {
-        checkpoint,
-        start: starts_queries::start(rng, state),
-    }
+    Records::Start(checkpoint, starts_queries::start(rng, state))
 }
 
 fn damage(rng: &mut Random, records: &mut Records) {
     match records {
-        Records::Start { start, .. } => malformed::bytes(rng, start),
-        Records::Deliver { announcement, .. } if rng.chance(50) => {
-            malformed::bytes(rng, announcement)
-        }
-        Records::Deliver { sheet, .. } => malformed::sheet(rng, sheet),
-        Records::Query { query } => malformed::bytes(rng, query),
+        Records::Start(_, start) => malformed::bytes(rng, start),
+        Records::Deliver(announcement, _) if rng.chance(50) => malformed::bytes(rng, announcement),
+        Records::Deliver(_, sheet) => malformed::sheet(rng, sheet),
+        Records::Query(query) => malformed::bytes(rng, query),
         Records::Checkpoint => {}
     }
 }

@@ -89,24 +89,29 @@ fn set_proposals(rng: &mut Random, state: &mut StateFields) {
     }
     state.proposals.clear();
     for cycle in cycles {
-        let (kind, arguments) = match state.proposals.len() {
-            used if used > 0 && rng.chance(45) => {
-                let earlier: Proposal = state.proposals[rng.below(used)];
-                (earlier.kind, earlier.arguments)
-            }
-            _ => arguments::any(rng, state),
-        };
-        let day = match rng.below(5) {
-            0 => state.day,
-            1 => rng.within(0, state.day),
-            _ => state.day.saturating_sub(rng.within(4, 9)),
-        };
-        state.proposals.push(Proposal {
-            cycle,
-            day,
-            kind,
-            arguments,
-        });
+        let row = proposal(rng, state, cycle);
+        state.proposals.push(row);
+    }
+}
+
+fn proposal(rng: &mut Random, state: &StateFields, cycle: u32) -> Proposal {
+    let (kind, arguments) = match state.proposals.len() {
+        used if used > 0 && rng.chance(45) => {
+            let earlier = state.proposals[rng.below(used)];
+            (earlier.kind, earlier.arguments)
+        }
+        _ => arguments::any(rng, state),
+    };
+    let day = match rng.below(5) {
+        0 => state.day,
+        1 => rng.within(0, state.day),
+        _ => state.day.saturating_sub(rng.within(4, 9)),
+    };
+    Proposal {
+        cycle,
+        day,
+        kind,
+        arguments,
     }
 }
 

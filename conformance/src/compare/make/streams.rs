@@ -2,7 +2,7 @@
 
 use super::malformed;
 use super::random::Random;
-use crate::compare::call::{History, Records};
+use crate::compare::call::History;
 use crate::layout::{kind_of, least_size};
 
 /// The most records of a stream: what follows damage is seldom read.
@@ -12,20 +12,9 @@ const LONGEST: usize = 60;
 pub fn of_history(rng: &mut Random, history: &History) -> Vec<u8> {
     let host = rng.below(history.by_value.len());
     let all = rng.chance(30);
-    let mut records: Vec<Vec<u8>> = Vec::new();
-    for call in history.calls.iter().filter(|call| all || call.host == host) {
-        match &call.records {
-            Records::Start { checkpoint, start } => {
-                records.extend([start.clone(), checkpoint.clone()])
-            }
-            Records::Deliver {
-                announcement,
-                sheet,
-            } => records.extend([announcement.clone(), sheet.clone()]),
-            Records::Query { query } => records.push(query.clone()),
-            Records::Checkpoint => {}
-        }
-    }
+    let calls = history.calls.iter().filter(|call| all || call.host == host);
+    let records = calls.flat_map(|call| call.records.in_order());
+    let mut records: Vec<Vec<u8>> = records.cloned().collect();
     records.truncate(rng.within(2, LONGEST as u32) as usize);
     // Damage at the end of a stream is only read where the records before it are whole.
     let (record_damage, stream_damage) = rng.pick(&[

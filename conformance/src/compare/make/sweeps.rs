@@ -28,17 +28,12 @@ pub fn bases(rng: &mut Random) -> Vec<Request> {
     let mut bases = vec![
         Request {
             image: Vec::new(),
-            records: Records::Start {
-                checkpoint: state.write(),
-                start,
-            },
+            records: Records::Start(state.write(), start),
             out,
         },
         Request {
             image: image.clone(),
-            records: Records::Query {
-                query: starts_queries::query(rng, &state),
-            },
+            records: Records::Query(starts_queries::query(rng, &state)),
             out,
         },
         Request {
@@ -68,10 +63,7 @@ fn delivery(rng: &mut Random, state: &StateFields, kind: u16) -> Records {
     }
     let aim = rng.pick(&[Aim::Quorum, Aim::OneLess, Aim::All]);
     let sheet = sheets::sheet(rng, state, kind_of(&announcement), aim, &[]);
-    Records::Deliver {
-        announcement,
-        sheet,
-    }
+    Records::Deliver(announcement, sheet)
 }
 
 /// All damage to one request.
@@ -91,52 +83,50 @@ pub fn sweep(rng: &mut Random, base: &Request, each: Each) -> Result<(), String>
 /// The input slices of a request.
 fn slices(request: &Request) -> Vec<&Vec<u8>> {
     match &request.records {
-        Records::Start { checkpoint, start } => vec![checkpoint, start],
-        Records::Deliver {
-            announcement,
-            sheet,
-        } => vec![&request.image, announcement, sheet],
-        Records::Query { query } => vec![&request.image, query],
+        Records::Start(checkpoint, start) => vec![checkpoint, start],
+        Records::Deliver(announcement, sheet) => vec![&request.image, announcement, sheet],
+        Records::Query(query) => vec![&request.image, query],
         Records::Checkpoint => vec![&request.image],
     }
 }
 
 fn slice_mut(request: &mut Request, place: usize) -> &mut Vec<u8> {
     match (&mut request.records, place) {
-        (Records::Start { checkpoint, .. }, 0) => checkpoint,
-        (Records::Start { start, .. }, _) => start,
+        (Records::Start(checkpoint, _), 0) => checkpoint,
+        (Records::Start(_, start), _) => start,
         (_, 0) => &mut request.image,
-        (Records::Deliver { announcement, .. }, 1) => announcement,
-        (Records::Deliver { sheet, .. }, _) => sheet,
-        (Records::Query { query }, _) => query,
+        (Records::Deliver(announcement, _), 1) => announcement,
+        (Records::Deliver(_, sheet), _) => sheet,
+        (Records::Query(query), _) => query,
         (Records::Checkpoint, _) => &mut request.image,
     }
 }
 
 fn sweep_slice(rng: &mut Random, base: &Request, place: usize, each: Each) -> Result<(), String> {
-    let whole = slices(base)[place].clone();
-    let mut request = base.clone();
-    for length in 0..whole.len() {
-        *slice_mut(&mut request, place) = whole[..length].to_vec();
-        each(&request)?;
-        malformed::reframe(slice_mut(&mut request, place), length);
-        each(&request)?;
-    }
-    for more in 1..=8 {
-        for byte in [0, 255] {
-            *slice_mut(&mut request, place) = whole.clone();
-            slice_mut(&mut request, place).resize(whole.len() + more, byte);
-            each(&request)?;
-        }
-        // Once more under the length that it has now.
-        malformed::reframe(slice_mut(&mut request, place), whole.len() + more);
-        each(&request)?;
-    }
+    sweep_lengths(base, place, each)?;
     sweep_bytes(rng, base, place, each)?;
     sweep_headers(base, place, each)?;
+    let mut request = base.clone();
     for _ in 0..20 {
-        *slice_mut(&mut request, place) = whole.iter().map(|_| rng.byte()).collect();
+        let slice = slice_mut(&mut request, place);
+        slice.iter_mut().for_each(|byte| *byte = rng.byte());
         each(&request)?;
+    }
+    Ok(())
+}
+
+/// Every shorter length, and eight longer ones: as they are, and under the length that they have now.
+fn sweep_lengths(base: &Request, place: usize, each: Each) -> Result<(), String> {
+    let whole = slices(base)[place].len();
+    for length in 0..=whole + 8 {
+        let fills: &[u8] = if length > whole { &[0, 255] } else { &[0] };
+        for byte in fills {
+            let mut request = base.clone();
+            slice_mut(&mut request, place).resize(length, *byte);
+            each(&request)?;
+            malformed::reframe(slice_mut(&mut request, place), length);
+            each(&request)?;
+        }
     }
     Ok(())
 }
@@ -188,17 +178,14 @@ fn sweep_headers(base: &Request, place: usize, each: Each) -> Result<(), String>
 
 /// Sheets of every row count from 0 to 70 in their right length, and of 255 rows.
 pub fn row_counts(base: &Request, each: Each) -> Result<(), String> {
-    let Records::Deliver { announcement, .. } = &base.records else {
+    let Records::Deliver(announcement, _) = &base.records else {
         return Ok(());
     };
     for rows in (0..=70).chain([255]) {
         let rows = vec![(31, 1); rows];
         let sheet = records::sheet([255, 255], &rows);
         each(&Request {
-            records: Records::Deliver {
-                announcement: announcement.clone(),
-                sheet,
-            },
+            records: Records::Deliver(announcement.clone(), sheet),
             ..base.clone()
         })?;
     }

@@ -1,9 +1,10 @@
 //! What the calls met: answers by call, actions, both ends of every range.
 
-use super::ranges::{Range, ANNOUNCED, PERFORMED, RANGES};
+use super::ranges::{Range, ANNOUNCED, HEAD, PERFORMED, RANGES};
 use crate::compare::call::{Outcome, Records, Request, VOTED};
-use crate::compare::fields::{OwnFields, StateFields};
-use crate::layout::{self, kind_of, BODY, CYCLE_AND_DAY, MASKS, QUERY, ROW, ROWS, ROW_SIZE, START};
+use crate::compare::fields::{OwnFields, Seat, StateFields};
+use crate::layout::{self, kind_of, BODY, CHECKPOINT, CYCLE_AND_DAY, MASKS, QUERY, ROW, ROWS};
+use crate::layout::{ROW_SIZE, START};
 
 pub struct Coverage {
     pub calls: u64,
@@ -50,22 +51,19 @@ impl Coverage {
 
     fn note_records(&mut self, request: &Request, outcome: &Outcome) {
         match &request.records {
-            Records::Start { checkpoint, start } => {
+            Records::Start(checkpoint, start) => {
                 self.note_state(checkpoint);
                 let values = layout::values(&START, start, BODY);
                 self.meet_all(&[Range::StartSeat, Range::StartLife], &values);
                 return;
             }
-            Records::Deliver {
-                announcement,
-                sheet,
-            } => {
+            Records::Deliver(announcement, sheet) => {
                 self.note_announcement(announcement, outcome.number);
                 if outcome.number != 2 {
                     self.note_sheet(sheet);
                 }
             }
-            Records::Query { query } => {
+            Records::Query(query) => {
                 let values = layout::values(&QUERY, query, BODY);
                 let ranges = [Range::AskedLogin, Range::AskedDay, Range::AskedRight];
                 self.meet_all(&ranges, &values);
@@ -93,30 +91,25 @@ impl Coverage {
         let Some(state) = StateFields::read(checkpoint) else {
             return;
         };
-        self.meet(Range::Cycle, state.cycle);
-        self.meet(Range::Day, state.day);
-        self.meet(Range::Level1, state.levels[0]);
-        self.meet(Range::Level2, state.levels[1]);
-        self.meet(Range::Margin, state.margin);
-        self.meet(Range::Least, state.least);
-        self.meet(Range::Silence, state.silence);
+        self.meet_all(&HEAD, &layout::values(&CHECKPOINT, checkpoint, BODY));
         self.meet(Range::Present, state.present() as u32);
-        for seat in state.seats {
-            self.meet(Range::Standing, seat.standing);
-            if seat.standing != 0 {
-                self.meet(Range::Life, seat.life);
-            }
-        }
         self.meet(Range::Proposals, state.proposals.len() as u32);
-        for row in &state.proposals {
-            self.meet(Range::ProposalCycle, row.cycle);
-            self.meet(Range::ProposalDay, row.day);
-        }
         self.meet(Range::Logins, state.logins.len() as u32);
-        for row in &state.logins {
-            self.meet(Range::Login, row.login);
-            self.meet(Range::EndDay, row.end);
-            self.meet(Range::Rights, row.rights);
+        state.seats.iter().for_each(|seat| self.note_seat(seat));
+        state.proposals.iter().for_each(|row| {
+            let ranges = [Range::ProposalCycle, Range::ProposalDay];
+            self.meet_all(&ranges, &[row.cycle, row.day]);
+        });
+        state.logins.iter().for_each(|row| {
+            let ranges = [Range::Login, Range::EndDay, Range::Rights];
+            self.meet_all(&ranges, &[row.login, row.end, row.rights.into()]);
+        });
+    }
+
+    fn note_seat(&mut self, seat: &Seat) {
+        self.meet(Range::Standing, seat.standing);
+        if *seat != Seat::FREE {
+            self.meet(Range::Life, seat.life);
         }
     }
 

@@ -15,19 +15,13 @@ pub enum Case {
 
 /// The records of a call in the words of `records`.
 pub fn words_of(records: &Records) -> String {
-    let slices: Vec<&[u8]> = match records {
-        Records::Start { checkpoint, start } => vec![start, checkpoint],
-        Records::Deliver {
-            announcement,
-            sheet,
-        } => vec![announcement, sheet],
-        Records::Query { query } => vec![query],
-        Records::Checkpoint => vec![],
-    };
-    let words = slices.into_iter().map(|slice| match slice {
-        [] => "# an empty slice\n".to_string(),
-        slice => show(slice).text,
-    });
+    let words = records
+        .in_order()
+        .into_iter()
+        .map(|slice| match slice.len() {
+            0 => "# an empty slice\n".to_string(),
+            _ => show(slice).text,
+        });
     words.collect()
 }
 
@@ -58,12 +52,11 @@ fn bytes(hex: &str) -> Result<Vec<u8>, String> {
 
 fn records_line(records: &Records) -> String {
     match records {
-        Records::Start { checkpoint, start } => format!("start {} {}", hex(checkpoint), hex(start)),
-        Records::Deliver {
-            announcement,
-            sheet,
-        } => format!("deliver {} {}", hex(announcement), hex(sheet)),
-        Records::Query { query } => format!("query {}", hex(query)),
+        Records::Start(checkpoint, start) => format!("start {} {}", hex(checkpoint), hex(start)),
+        Records::Deliver(announcement, sheet) => {
+            format!("deliver {} {}", hex(announcement), hex(sheet))
+        }
+        Records::Query(query) => format!("query {}", hex(query)),
         Records::Checkpoint => "checkpoint".to_string(),
     }
 }
@@ -164,17 +157,9 @@ fn count(word: &str) -> Result<usize, String> {
 
 fn read_records(words: &[&str]) -> Result<Records, String> {
     Ok(match words {
-        ["start", checkpoint, start] => Records::Start {
-            checkpoint: bytes(checkpoint)?,
-            start: bytes(start)?,
-        },
-        ["deliver", announcement, sheet] => Records::Deliver {
-            announcement: bytes(announcement)?,
-            sheet: bytes(sheet)?,
-        },
-        ["query", query] => Records::Query {
-            query: bytes(query)?,
-        },
+        ["start", checkpoint, start] => Records::Start(bytes(checkpoint)?, bytes(start)?),
+        ["deliver", announcement, sheet] => Records::Deliver(bytes(announcement)?, bytes(sheet)?),
+        ["query", query] => Records::Query(bytes(query)?),
         ["checkpoint"] => Records::Checkpoint,
         _ => return Err(format!("not a call: {}", words.join(" "))),
     })

@@ -91,6 +91,17 @@ ranges! {
     DoneCycle (1, MAX - 1), "performed: cycle";
 }
 
+/// The ranges of a checkpoint's fields before its tables.
+pub const HEAD: [Range; 7] = [
+    Range::Cycle,
+    Range::Day,
+    Range::Level1,
+    Range::Level2,
+    Range::Margin,
+    Range::Least,
+    Range::Silence,
+];
+
 /// The ranges of the arguments of an announcement, by kind. Those of the other kinds have no end
 /// that a performed one has not.
 pub const ANNOUNCED: [&[Range]; 10] = [

@@ -7,25 +7,34 @@ use crate::compare::call::{possible_answers, CALLS};
 impl Coverage {
     /// What was never met, one line each.
     pub fn missing(&self) -> Vec<String> {
-        let mut lines = Vec::new();
-        for (call, name) in CALLS.iter().enumerate() {
-            let never = possible_answers(call)
-                .into_iter()
-                .filter(|&answer| self.answers[call][answer as usize] == 0);
-            lines.extend(never.map(|answer| format!("{name}: answer {answer}")));
-            let lengths = ["one byte short", "exact", "longer"];
-            let never = (0..3).filter(|&i| self.slices[call][i] == 0);
-            lines.extend(never.map(|i| format!("{name}: output slice {}", lengths[i])));
-        }
-        for kind in 1..10 {
-            lines.extend((self.performed[kind] == 0).then(|| format!("kind {kind} performed")));
-            lines.extend((self.voted[kind] == 0).then(|| format!("kind {kind} voted for")));
-        }
-        for (i, (name, (low, high))) in RANGES.iter().enumerate() {
-            lines.extend((self.low[i] == 0).then(|| format!("{name}: {low}")));
-            lines.extend((self.high[i] == 0).then(|| format!("{name}: {high}")));
-        }
-        lines
+        let calls = (0..CALLS.len()).flat_map(|call| self.missing_of_call(call));
+        let kinds = (1..10).flat_map(|kind| {
+            let performed = (self.performed[kind] == 0).then(|| format!("kind {kind} performed"));
+            let voted = (self.voted[kind] == 0).then(|| format!("kind {kind} voted for"));
+            performed.into_iter().chain(voted)
+        });
+        let ends = RANGES
+            .iter()
+            .enumerate()
+            .flat_map(|(i, (name, (low, high)))| {
+                let low = (self.low[i] == 0).then(|| format!("{name}: {low}"));
+                let high = (self.high[i] == 0).then(|| format!("{name}: {high}"));
+                low.into_iter().chain(high)
+            });
+        calls.chain(kinds).chain(ends).collect()
+    }
+
+    fn missing_of_call(&self, call: usize) -> Vec<String> {
+        let name = CALLS[call];
+        let answers = possible_answers(call).into_iter();
+        let never = answers.filter(|&answer| self.answers[call][answer as usize] == 0);
+        let answers = never.map(|answer| format!("{name}: answer {answer}"));
+        let lengths = ["one byte short", "exact", "longer"]
+            .into_iter()
+            .enumerate();
+        let never = lengths.filter(|(i, _)| self.slices[call][*i] == 0);
+        let slices = never.map(|(_, length)| format!("{name}: output slice {length}"));
+        answers.chain(slices).collect()
     }
 
     /// Answers by call, then actions, one line each.

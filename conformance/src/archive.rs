@@ -1,5 +1,12 @@
 //! The shipped static library through its C interface. The only unsafe code of the package.
 
+/// Whether the library was there when the package was built.
+pub const IS_LINKED: bool = cfg!(not(no_archive));
+
+pub const MISSING: &str = "libnode_c.a is missing: run `rt staticlib node_c` first, or name its \
+    folder in NODE_C_DIR";
+
+#[cfg(not(no_archive))]
 mod c {
     extern "C" {
         pub fn node_start(
@@ -34,6 +41,26 @@ mod c {
             checkpoint_out: *mut u8,
             checkpoint_out_length: usize,
         ) -> u32;
+    }
+}
+
+/// What stands in for the library where it is missing. Programs ask `IS_LINKED` before a call; a test
+/// that does not ends with the message.
+#[cfg(no_archive)]
+mod c {
+    macro_rules! missing {
+        ($($name:ident: $($type:ty),*;)*) => {
+            $(pub unsafe fn $name($(_: $type),*) -> u32 {
+                panic!("{}", super::MISSING)
+            })*
+        };
+    }
+
+    missing! {
+        node_start: *const u8, usize, *const u8, usize, *mut u8, usize;
+        node_deliver: *const u8, usize, *const u8, usize, *const u8, usize, *mut u8, usize;
+        node_query: *const u8, usize, *const u8, usize, *mut u8, usize;
+        node_checkpoint: *const u8, usize, *mut u8, usize;
     }
 }
 

@@ -1,11 +1,12 @@
 //! What shows that the shipped archive does as document 01 says and how fast, and its records as
-//! text.
+//! text. conformance/README.md says what is where.
 
 pub mod archive;
 pub mod bench;
-pub mod calls;
+pub mod command_line;
+pub mod compare;
 pub mod corpus;
-pub mod history;
+pub mod faulty;
+mod layout;
 pub mod paper;
-pub mod script;
-pub mod tuned;
+pub mod text;

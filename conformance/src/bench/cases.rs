@@ -1,8 +1,8 @@
 //! The measured calls, on a full state and on a small one.
 
-use crate::history::call::{Records, VOTED};
-use crate::history::records;
-use crate::history::view::{Login, Own, Proposal, Seat, View, FREE, PRESENT};
+use crate::compare::call::{Records, VOTED};
+use crate::compare::fields::{Login, OwnFields, Proposal, Seat, StateFields, FREE, PRESENT};
+use crate::compare::make::records;
 
 pub struct Case {
     pub name: &'static str,
@@ -45,8 +45,8 @@ pub const SMALL: Size = Size {
 };
 
 impl Size {
-    fn view(&self) -> View {
-        View {
+    fn state(&self) -> StateFields {
+        StateFields {
             cycle: CYCLE,
             day: DAY,
             levels: [8, 8],
@@ -61,14 +61,11 @@ impl Size {
 
     /// The calls, each as often as it has another way to end.
     pub fn cases(&self) -> Vec<Case> {
-        let remove = announcement(6, [self.proposals - 1, 0, 0, 0, 0, 0, 0, 0, 0, 0, 0, 0]);
+        let remove = announcement(6, records::arguments(&[self.proposals - 1]));
         let grant = announcement(8, records::grant(500 * self.logins, DAY + 200, 3));
         let end = announcement(9, records::arguments(&500u32.to_le_bytes()));
         let late = announcement(9, records::arguments(&1u32.to_le_bytes()));
-        let start = Records::Start {
-            checkpoint: self.view().write(),
-            start: records::start(0, LIFE),
-        };
+        let start = Records::Start(self.state().write(), records::start(0, LIFE));
         vec![
             self.case("start", start, 0),
             self.case("deliver: remove done", self.deliver(&remove, self.rows), 0),
@@ -83,17 +80,21 @@ impl Size {
         ]
     }
 
-    fn case(&self, name: &'static str, records: Records, number: u32) -> Case {
-        let own = Own {
+    /// The image that every case begins with.
+    pub fn image(&self) -> Vec<u8> {
+        let own = OwnFields {
             seat: 0,
             life: LIFE,
             vote: None,
             misses: 3,
         };
-        let image = own.image(&self.view());
+        own.image(&self.state())
+    }
+
+    fn case(&self, name: &'static str, records: Records, number: u32) -> Case {
         Case {
             name,
-            image,
+            image: self.image(),
             records,
             number,
         }
@@ -101,10 +102,7 @@ impl Size {
 
     fn deliver(&self, announcement: &[u8], rows: u8) -> Records {
         let rows: Vec<(u8, u32)> = (0..rows).map(|i| (i % self.seats, LIFE)).collect();
-        Records::Deliver {
-            announcement: announcement.to_vec(),
-            sheet: records::sheet([255, 255], &rows),
-        }
+        Records::Deliver(announcement.to_vec(), records::sheet([255, 255], &rows))
     }
 }
 
@@ -144,7 +142,5 @@ fn announcement(kind: u16, arguments: [u8; 12]) -> Vec<u8> {
 }
 
 fn query(login: u32, day: u32) -> Records {
-    Records::Query {
-        query: records::query(login, day, 0),
-    }
+    Records::Query(records::query(login, day, 0))
 }

@@ -1,9 +1,23 @@
 //! Time per call.
 
 use super::cases::Case;
-use crate::calls::Calls;
+use super::tuned;
+use crate::compare::call::{Calls, ARCHIVE};
+use crate::compare::PAPER;
+pub use crate::layout::IMAGE_SIZE;
 use std::hint::black_box;
 use std::time::Instant;
+
+/// The shipped static library, the second implementation and the version written for speed.
+pub const VERSIONS: [Calls; 3] = [ARCHIVE, PAPER.calls, TUNED];
+
+pub const TUNED: Calls = Calls {
+    name: "tuned",
+    start: tuned::node_start,
+    deliver: tuned::node_deliver,
+    query: tuned::node_query,
+    checkpoint: tuned::node_checkpoint,
+};
 
 const ROUNDS: usize = 200;
 const CALLS_PER_ROUND: u32 = 500;

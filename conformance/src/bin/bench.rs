@@ -1,44 +1,74 @@
 //! Prints how long each call takes through C: by the archive, by the second implementation and by
 //! the version written for speed, and the ratios.
-//!
-//! bench SIZE CASE VERSION COUNT   makes one call so often and prints nothing, for a profiler:
-//! bench full 'query: open' archive 1000
 
 use conformance::bench::cases::{Case, Size, FULL, SMALL};
-use conformance::bench::measure::{copy, least, make};
-use conformance::calls::{ARCHIVE, PAPER, TUNED};
+use conformance::bench::measure::{copy, least, make, IMAGE_SIZE, VERSIONS};
+use conformance::command_line::Program;
 use std::process::ExitCode;
 
+const PROGRAM: Program = Program {
+    name: "bench",
+    usage: "usage: bench
+       bench SIZE CASE VERSION COUNT",
+    help: "Prints how long each call takes through C, in ns: the least of 200 rounds of 500 calls, a line for
+each case, about half a minute in all.
+
+With words it makes one call COUNT times and prints nothing, for a profiler:
+bench full 'query: open' archive 1000
+SIZE is full or small, VERSION archive, paper or tuned, CASE the name of a line that bench prints:
+start
+deliver: remove done, deliver: grant done, deliver: end done, deliver: grant voted, deliver: end no 13
+query: open, query: no 19, query: no 18
+checkpoint
+
+Exit status: 0; 2 wrong use, or the archive is missing.
+",
+};
+
 fn main() -> ExitCode {
-    let words: Vec<String> = std::env::args().skip(1).collect();
+    run().unwrap_or_else(|status| status)
+}
+
+fn run() -> Result<ExitCode, ExitCode> {
+    let words = PROGRAM.words()?;
     let words: Vec<&str> = words.iter().map(String::as_str).collect();
-    match words.as_slice() {
-        [] => print_table(),
-        [size, case, version, count] => match repeat(size, case, version, count) {
-            Some(()) => {}
-            None => return usage(),
-        },
-        _ => return usage(),
+    match words[..] {
+        [] => {
+            PROGRAM.require_archive()?;
+            print_table();
+        }
+        [size, case, version, count] => {
+            PROGRAM.require_archive()?;
+            repeat(size, case, version, count).map_err(|word| {
+                PROGRAM.wrong(&format!(
+                    "{word} is not understood: bench --help lists the words"
+                ))
+            })?;
+        }
+        _ => return Err(PROGRAM.wrong("no word or four are expected")),
     }
-    ExitCode::SUCCESS
+    Ok(ExitCode::SUCCESS)
 }
 
-fn usage() -> ExitCode {
-    eprintln!("bench [full|small CASE archive|paper|tuned COUNT]");
-    ExitCode::from(2)
-}
-
-fn repeat(size: &str, case: &str, version: &str, count: &str) -> Option<()> {
-    let size = [FULL, SMALL].into_iter().find(|known| known.name == size)?;
-    let cases = size.cases();
-    let case = cases.iter().find(|known| known.name == case)?;
-    let versions = [ARCHIVE, PAPER, TUNED];
-    let version = versions.iter().find(|known| known.name == version)?;
-    let mut out = [0; 1139];
-    for _ in 0..count.parse::<u64>().ok()? {
+/// Makes the call; an error is the word that is wrong.
+fn repeat<'a>(
+    size: &'a str,
+    case: &'a str,
+    version: &'a str,
+    count: &'a str,
+) -> Result<(), &'a str> {
+    let mut sizes = [FULL, SMALL].into_iter();
+    let found = sizes.find(|known| known.name == size);
+    let cases = found.ok_or(size)?.cases();
+    let found = cases.iter().find(|known| known.name == case);
+    let case = found.ok_or(case)?;
+    let found = VERSIONS.iter().find(|known| known.name == version);
+    let version = found.ok_or(version)?;
+    let mut out = [0; IMAGE_SIZE];
+    for _ in 0..count.parse::<u64>().map_err(|_| count)? {
         make(version, case, &mut out);
     }
-    Some(())
+    Ok(())
 }
 
 fn print_table() {
@@ -53,12 +83,12 @@ fn print_table() {
 }
 
 fn print_case(size: &Size, case: &Case) {
-    let mut outs = [[0; 1139]; 3];
+    let mut outs = [[0; IMAGE_SIZE]; 3];
     let [first, second, third] = &mut outs;
     let [archive, paper, tuned] = least([
-        &mut || make(&ARCHIVE, case, first),
-        &mut || make(&PAPER, case, second),
-        &mut || make(&TUNED, case, third),
+        &mut || make(&VERSIONS[0], case, first),
+        &mut || make(&VERSIONS[1], case, second),
+        &mut || make(&VERSIONS[2], case, third),
     ]);
     assert!(outs[0] == outs[1] && outs[0] == outs[2], "{}", case.name);
     println!(
@@ -71,7 +101,7 @@ fn print_case(size: &Size, case: &Case) {
 }
 
 fn copy_time() -> f64 {
-    let image = &FULL.cases()[1].image;
-    let (mut between, mut out) = ([0; 1139], [0; 1139]);
-    least([&mut || copy(image, &mut between, &mut out)])[0]
+    let image = FULL.image();
+    let (mut between, mut out) = ([0; IMAGE_SIZE], [0; IMAGE_SIZE]);
+    least([&mut || copy(&image, &mut between, &mut out)])[0]
 }

@@ -1,157 +1,171 @@
-//! Compares the shipped archive with the second implementation on random histories and damaged
-//! input.
-//!
-//! compare [OPTIONS] SEED COUNT      makes so many calls in all
-//! compare [OPTIONS] --replay FILE   shows a kept case step by step
-//!
-//! --node-run PATH compares the program too; --fault NAME plants a fault in the second
-//! implementation, to see what a difference looks like. Exit status 1 on a difference, and where
-//! something that must be met was not.
+//! Compares the shipped archive and node-run with the second implementation.
 
-use conformance::history::replay;
-use conformance::history::rng::Rng;
-use conformance::history::search::{Found, Search};
-use conformance::history::text::Case;
-use conformance::paper::fault;
-use std::path::PathBuf;
+use conformance::command_line::Program;
+use conformance::compare::{program, replay, Case, Found, Random, Second, Stages, FAULTY, PAPER};
+use conformance::faulty;
+use std::fs::OpenOptions;
+use std::io::{ErrorKind, Write};
+use std::path::{Path, PathBuf};
 use std::process::ExitCode;
 use std::time::Instant;
 
-const USAGE: &str = "usage: compare [--node-run PATH] [--fault NAME] SEED COUNT | --replay FILE";
+const PROGRAM: Program = Program {
+    name: "compare",
+    usage: "usage: compare [--node-run PATH] [--fault NAME] SEED COUNT
+       compare [--node-run PATH] [--fault NAME] --replay FILE
+       compare --faults",
+    help: "Compares the shipped archive with the second implementation on random histories of a park and
+on damaged input, COUNT calls in all; the same SEED gives the same calls. A difference is
+shortened, shown and kept in a new file compare-failure-SEED.txt.
 
-#[derive(Default)]
+  --node-run PATH  compares the program node-run too
+  --replay FILE    shows a kept case step by step
+  --fault NAME     plants a fault in the second implementation, to see what a difference looks like
+  --faults         lists the faults
+
+Exit status: 0 no difference and everything met that must be met; 1 a difference; 2 wrong use, or
+something needed is missing; 3 no difference, but not everything was met: take more calls.
+",
+};
+
+const NOT_ALL_MET: u8 = 3;
+
 struct Options {
+    second: &'static Second,
     node_run: Option<PathBuf>,
     replay: Option<PathBuf>,
     numbers: Vec<u64>,
 }
 
-fn options() -> Option<Options> {
-    let mut options = Options::default();
-    let mut words = std::env::args().skip(1);
+/// The options, or what is wrong with the words.
+fn options(words: Vec<String>) -> Result<Options, String> {
+    let mut options = Options {
+        second: &PAPER,
+        node_run: None,
+        replay: None,
+        numbers: Vec::new(),
+    };
+    let mut words = words.into_iter();
     while let Some(word) = words.next() {
+        let mut behind = || words.next().ok_or(format!("nothing stands behind {word}"));
         match word.as_str() {
-            "--node-run" => options.node_run = Some(words.next()?.into()),
-            "--replay" => options.replay = Some(words.next()?.into()),
+            "--node-run" => options.node_run = Some(behind()?.into()),
+            "--replay" => options.replay = Some(behind()?.into()),
             "--fault" => {
-                let name = words.next()?;
-                fault::set(Some(*fault::ALL.iter().find(|fault| fault.name() == name)?));
+                let name = behind()?;
+                let place = faulty::find(&name);
+                let place =
+                    place.ok_or(format!("no fault is called {name}: --faults lists them"))?;
+                faulty::set(Some(place));
+                options.second = &FAULTY;
             }
-            number => options.numbers.push(number.parse().ok()?),
+            number => match number.parse() {
+                Ok(number) => options.numbers.push(number),
+                Err(_) => return Err(format!("{number} is neither an option nor a number")),
+            },
         }
     }
-    Some(options)
+    Ok(options)
 }
 
 fn main() -> ExitCode {
-    let Some(options) = options() else {
-        eprintln!("{USAGE}");
-        return ExitCode::from(2);
+    run().unwrap_or_else(|status| status)
+}
+
+fn run() -> Result<ExitCode, ExitCode> {
+    let words = PROGRAM.words()?;
+    if words == ["--faults"] {
+        for fault in faulty::ALL {
+            println!("{}: {}", fault.name, fault.shows);
+        }
+        return Ok(ExitCode::SUCCESS);
+    }
+    let options = options(words).map_err(|what| PROGRAM.wrong(&what))?;
+    let node_run = options.node_run.as_deref();
+    let is_search = match (&options.replay, options.numbers.len()) {
+        (Some(_), 0) => false,
+        (None, 2) => true,
+        (Some(_), _) => return Err(PROGRAM.wrong("--replay takes no SEED and COUNT")),
+        (None, _) => return Err(PROGRAM.wrong("SEED and COUNT are expected")),
     };
-    match (&options.replay, options.numbers.as_slice()) {
-        (Some(file), []) => replay_file(file, options.node_run.as_ref()),
-        (None, &[seed, count]) => compare(seed, count, options.node_run),
-        _ => {
-            eprintln!("{USAGE}");
-            ExitCode::from(2)
-        }
+    PROGRAM.require_archive()?;
+    if let Some(program) = node_run {
+        program::require(program).map_err(|what| PROGRAM.failed(&format!("--node-run {what}")))?;
+    }
+    match &options.replay {
+        Some(file) if !is_search => replay_file(&options, file, node_run),
+        _ => Ok(compare(&options, options.numbers[0], options.numbers[1])),
     }
 }
 
-fn replay_file(file: &PathBuf, node_run: Option<&PathBuf>) -> ExitCode {
-    let case = std::fs::read_to_string(file)
-        .map_err(|error| error.to_string())
-        .and_then(|text| Case::read(&text));
-    match case {
-        Ok(case) => status(replay::replay(&case, node_run)),
-        Err(error) => {
-            eprintln!("{}: {error}", file.display());
-            ExitCode::from(2)
-        }
+fn replay_file(
+    options: &Options,
+    file: &Path,
+    node_run: Option<&Path>,
+) -> Result<ExitCode, ExitCode> {
+    let failed = |what: String| PROGRAM.failed(&format!("{}: {what}", file.display()));
+    let text = std::fs::read_to_string(file).map_err(|error| failed(error.to_string()))?;
+    let case = Case::read(&text).map_err(failed)?;
+    let is_stream = matches!(case, Case::Stream(_));
+    if is_stream && node_run.is_none() {
+        return Err(failed(
+            "an input of node-run is kept in it: --node-run PATH is needed".into(),
+        ));
     }
+    Ok(match replay::replay(options.second, &case, node_run) {
+        true => ExitCode::SUCCESS,
+        false => ExitCode::FAILURE,
+    })
 }
 
-fn status(good: bool) -> ExitCode {
-    if good {
-        ExitCode::SUCCESS
-    } else {
-        ExitCode::FAILURE
-    }
-}
-
-fn compare(seed: u64, count: u64, node_run: Option<PathBuf>) -> ExitCode {
+fn compare(options: &Options, seed: u64, count: u64) -> ExitCode {
     let begin = Instant::now();
-    let mut search = Search {
-        node_run,
-        progress: (count / 10).max(1),
-        ..Search::default()
-    };
-    let mut rng = Rng::new(seed);
-    let searched = search_all(&mut search, &mut rng, count);
-    summary(&search, begin.elapsed().as_secs_f64());
-    if let Err(found) = searched {
-        keep(seed, found, search.node_run.as_ref());
+    let mut stages = Stages::new(options.second, options.node_run.clone()).with_progress();
+    let found = all_stages(&mut stages, &mut Random::new(seed), count);
+    let (calls, seconds) = (stages.coverage.calls, begin.elapsed().as_secs_f64());
+    let rate = calls as f64 / seconds;
+    println!("{calls} calls in {seconds:.1} s, {rate:.0} calls per second");
+    stages.summary().iter().for_each(|line| println!("{line}"));
+    if let Err(found) = found {
+        println!("DIFFERENCE: {}\nIt is shortened:\n", found.what);
+        let node_run = options.node_run.as_deref();
+        let found = found.shorten(options.second, node_run);
+        replay::replay(options.second, &found.case, node_run);
+        keep(seed, &found);
         return ExitCode::FAILURE;
     }
-    let missing = search.missing();
+    let missing = stages.missing();
     missing
         .iter()
         .for_each(|line| println!("never met: {line}"));
-    println!(
-        "{}",
-        if missing.is_empty() {
-            "no difference, all met"
-        } else {
-            "no difference, not all met"
-        }
-    );
-    status(missing.is_empty())
+    if missing.is_empty() {
+        println!("no difference, all met");
+        return ExitCode::SUCCESS;
+    }
+    println!("no difference, not all met");
+    ExitCode::from(NOT_ALL_MET)
 }
 
 /// A fifth each of requests that stand alone and of damaged input, then histories.
-fn search_all(search: &mut Search, rng: &mut Rng, count: u64) -> Result<(), Found> {
-    search.singles(rng, count / 5)?;
-    search.damaged(rng, count / 5 * 2)?;
-    search.histories(rng, count)
+fn all_stages(stages: &mut Stages, rng: &mut Random, count: u64) -> Result<(), Found> {
+    stages.lone_requests(rng, count / 5)?;
+    stages.damaged(rng, count / 5 * 2)?;
+    stages.histories(rng, count)
 }
 
-fn summary(search: &Search, seconds: f64) {
-    let coverage = &search.coverage;
-    println!(
-        "{} calls in {seconds:.1} s, {:.0} calls per second",
-        coverage.calls,
-        coverage.calls as f64 / seconds
-    );
-    println!(
-        "{} histories, {} within the bound, {} streams",
-        search.histories, search.within, search.streams
-    );
-    println!(
-        "within the bound: {} nodes at a cycle that another had reached",
-        search.shared
-    );
-    println!(
-        "ended logins: {} open since granted again, {} open on the last day of the limit",
-        search.regranted, search.at_limit
-    );
-    println!(
-        "beyond the bound: {} histories split, {} pairs with exactly 2m+1 double voters",
-        search.split, search.tight
-    );
-    coverage
-        .summary()
-        .iter()
-        .for_each(|line| println!("{line}"));
-}
-
-/// Shortens what was found and keeps it in a file.
-fn keep(seed: u64, found: Found, node_run: Option<&PathBuf>) {
-    println!("DIFFERENCE: {}", found.what);
-    let found = found.shorten(node_run);
-    let file = format!("compare-failure-{seed}.txt");
+/// Keeps a case in a file of its own; an earlier one stays.
+fn keep(seed: u64, found: &Found) {
     let text = format!("# {}\n{}", found.what, found.case.write());
-    match std::fs::write(&file, text) {
-        Ok(()) => println!("kept in {file}: {}", found.what),
-        Err(error) => println!("{file} is not written: {error}\n{}", found.case.write()),
+    for place in 1.. {
+        let file = match place {
+            1 => format!("compare-failure-{seed}.txt"),
+            _ => format!("compare-failure-{seed}-{place}.txt"),
+        };
+        let opened = OpenOptions::new().write(true).create_new(true).open(&file);
+        match opened.and_then(|mut opened| opened.write_all(text.as_bytes())) {
+            Err(error) if error.kind() == ErrorKind::AlreadyExists => {}
+            Ok(()) => return println!("kept in {file}: compare --replay {file} shows it again"),
+            Err(error) => return println!("{file} is not written: {error}\n{text}"),
+        }
     }
 }

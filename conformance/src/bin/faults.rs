@@ -1,20 +1,27 @@
 //! Shows that the comparison finds faults: switches on each planted fault of the second
 //! implementation and searches for a difference.
-//!
-//! faults [--node-run PATH]   exit status 1 where a fault is not found; without the program those
-//! of node-run are not
 
-use conformance::history::coverage::Coverage;
-use conformance::history::rng::Rng;
-use conformance::history::run;
-use conformance::history::search::{Found, Search};
-use conformance::history::streams;
-use conformance::paper::fault;
-use conformance::paper::run::node_run;
-use std::path::PathBuf;
+use conformance::command_line::Program;
+use conformance::compare::{program, random_history, streams, Found, Random, Stages, FAULTY};
+use conformance::faulty;
+use std::path::Path;
 use std::process::ExitCode;
 use std::time::Instant;
 
+const PROGRAM: Program = Program {
+    name: "faults",
+    usage: "usage: faults --node-run PATH",
+    help: "Switches on each planted fault of the second implementation (compare --faults lists them) and
+searches for a difference from the archive and from the program node-run at PATH. It begins with
+the same search without a fault: where that finds a difference, the archive or the program is
+wrong, and no fault is tried.
+
+Exit status: 0 every fault is found; 1 a fault is not found; 2 wrong use, or something needed is
+missing; 4 the archive or the program differs without a fault.
+",
+};
+
+const DIFFERS: u8 = 4;
 const SEED: u64 = 2024;
 /// No fault may need more calls.
 const LIMIT: u64 = 400_000;
@@ -24,56 +31,79 @@ const STREAMS: usize = 600;
 type Printed = Vec<(Vec<u8>, Vec<u8>)>;
 
 fn main() -> ExitCode {
-    let begin = Instant::now();
-    let printed = match program().map_or(Ok(Vec::new()), |program| print_streams(&program)) {
-        Ok(printed) => printed,
-        Err(error) => {
-            eprintln!("{error}");
-            return ExitCode::from(2);
+    run().unwrap_or_else(|status| status)
+}
+
+fn run() -> Result<ExitCode, ExitCode> {
+    let words = PROGRAM.words()?;
+    let words: Vec<&str> = words.iter().map(String::as_str).collect();
+    let node_run = match words[..] {
+        ["--node-run", path] => Path::new(path),
+        [] | ["--node-run"] => {
+            return Err(PROGRAM.wrong("--node-run PATH is needed for the faults of node-run"))
+        }
+        ["--node-run", _, word, ..] | [word, ..] => {
+            return Err(PROGRAM.wrong(&format!("{word} is not understood")))
         }
     };
+    PROGRAM.require_archive()?;
+    program::require(node_run).map_err(|what| PROGRAM.failed(&format!("--node-run {what}")))?;
+    let begin = Instant::now();
+    println!("Without a fault, {LIMIT} calls and {STREAMS} streams, some seconds:");
+    let printed = without_a_fault(node_run).map_err(|what| {
+        eprintln!(
+            "faults: without a fault there is a difference, so that no fault is tried: {what}"
+        );
+        ExitCode::from(DIFFERS)
+    })?;
+    println!("no difference");
+    let found = each_fault(&printed);
+    println!("{:.1} s", begin.elapsed().as_secs_f64());
+    println!("{} faults, {found} found", faulty::ALL.len());
+    Ok(match found == faulty::ALL.len() {
+        true => ExitCode::SUCCESS,
+        false => ExitCode::FAILURE,
+    })
+}
+
+/// Every call and stream that the search for a fault may use, with none switched on.
+fn without_a_fault(node_run: &Path) -> Result<Printed, String> {
+    let printed = print_streams(node_run)?;
+    for (input, output) in &printed {
+        program::same(output, &(FAULTY.node_run)(input))?;
+    }
+    let mut stages = Stages::new(&FAULTY, None).with_progress();
+    match all_stages(&mut stages, &printed) {
+        Some(_) => Err(format!("at call {}", stages.coverage.calls + 1)),
+        None => Ok(printed),
+    }
+}
+
+/// How many faults are found.
+fn each_fault(printed: &Printed) -> usize {
     // Panics of a faulty implementation count as found and need no trace.
     std::panic::set_hook(Box::new(|_| {}));
     let mut found = 0;
-    for &fault in fault::ALL {
-        fault::set(Some(fault));
-        let needed = search(&printed);
-        fault::set(None);
+    for (place, fault) in faulty::ALL.iter().enumerate() {
+        faulty::set(Some(place));
+        let needed = all_stages(&mut Stages::new(&FAULTY, None), printed);
+        faulty::set(None);
         found += usize::from(needed.is_some());
-        println!(
-            "{}: {}",
-            fault.name(),
-            needed.unwrap_or_else(|| "NOT FOUND".to_string())
-        );
+        let needed = needed.unwrap_or_else(|| "NOT FOUND".to_string());
+        println!("{}: {needed}", fault.name);
     }
-    println!("{:.1} s", begin.elapsed().as_secs_f64());
-    println!("{} faults, {found} found", fault::ALL.len());
-    if found == fault::ALL.len() {
-        ExitCode::SUCCESS
-    } else {
-        ExitCode::FAILURE
-    }
-}
-
-fn program() -> Option<PathBuf> {
-    let words: Vec<String> = std::env::args().skip(1).collect();
-    match words.as_slice() {
-        [option, path] if option == "--node-run" => Some(path.into()),
-        _ => None,
-    }
+    found
 }
 
 /// Streams made without a fault, so that one set serves all.
-fn print_streams(program: &PathBuf) -> Result<Printed, String> {
-    let mut rng = Rng::new(SEED);
+fn print_streams(node_run: &Path) -> Result<Printed, String> {
+    let mut rng = Random::new(SEED);
     let mut printed = Vec::new();
     while printed.len() < STREAMS {
-        let seed = rng.next();
-        let made = run::random(Rng::new(seed), &mut Coverage::new());
-        let (history, _) = made.map_err(|failure| failure.what)?;
+        let history = random_history(&FAULTY, rng.number()).map_err(|found| found.what)?;
         for _ in 0..8 {
             let input = streams::of_history(&mut rng, &history);
-            let output = streams::printed(program, &input)?;
+            let output = program::printed(node_run, &input)?;
             printed.push((input, output));
         }
     }
@@ -81,35 +111,31 @@ fn print_streams(program: &PathBuf) -> Result<Printed, String> {
 }
 
 /// What was needed to find a difference.
-fn search(printed: &Printed) -> Option<String> {
-    let mut search = Search::default();
-    let mut rng = Rng::new(SEED);
-    if search.singles(&mut rng, 4_000).is_err() {
-        return Some(calls(&search));
+fn all_stages(stages: &mut Stages, printed: &Printed) -> Option<String> {
+    let mut rng = Random::new(SEED);
+    if stages.lone_requests(&mut rng, 4_000).is_err() {
+        return Some(calls(stages));
     }
-    if let Some(place) = printed
-        .iter()
-        .position(|(input, output)| differs(input, output))
-    {
+    if let Some(place) = printed.iter().position(differs) {
         return Some(format!("{} streams", place + 1));
     }
-    let rest = |search: &mut Search, rng: &mut Rng| -> Result<(), Found> {
-        search.histories(rng, 10_000)?;
-        search.singles(rng, 40_000)?;
-        search.damaged(rng, 200_000)?;
-        search.histories(rng, 250_000)?;
-        search.singles(rng, LIMIT)
+    let rest = |stages: &mut Stages, rng: &mut Random| -> Result<(), Found> {
+        stages.histories(rng, 10_000)?;
+        stages.lone_requests(rng, 40_000)?;
+        stages.damaged(rng, 200_000)?;
+        stages.histories(rng, 250_000)?;
+        stages.lone_requests(rng, LIMIT)
     };
-    rest(&mut search, &mut rng).is_err().then(|| calls(&search))
+    rest(stages, &mut rng).is_err().then(|| calls(stages))
 }
 
-fn differs(input: &[u8], output: &[u8]) -> bool {
-    match std::panic::catch_unwind(|| node_run(input)) {
-        Ok(second) => streams::same(output, &second).is_err(),
+fn differs((input, output): &(Vec<u8>, Vec<u8>)) -> bool {
+    match std::panic::catch_unwind(|| (FAULTY.node_run)(input)) {
+        Ok(second) => program::same(output, &second).is_err(),
         Err(_) => true,
     }
 }
 
-fn calls(search: &Search) -> String {
-    format!("{} calls", search.coverage.calls + 1)
+fn calls(stages: &Stages) -> String {
+    format!("{} calls", stages.coverage.calls + 1)
 }

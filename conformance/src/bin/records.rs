@@ -1,60 +1,69 @@
 //! Text to records and records to text, from standard input to standard output.
-//!
-//! records compose           exit status 1 where the text is not understood
-//! records show [--image]    exit status 1 where anything is malformed
-//!
-//! Without arguments it prints what the text looks like.
 
-use conformance::script::{compose_bytes, show, show_image, Shown, USAGE};
-use std::io::{self, Read, Write};
+use conformance::command_line::{print, Program};
+use conformance::text::{compose_bytes, looks_like_text, show, show_image, warnings, Shown, USAGE};
+use std::io::{self, Read};
 use std::process::ExitCode;
 
+const PROGRAM: Program = Program {
+    name: "records",
+    usage: "usage: records compose < TEXT > RECORDS
+       records show [--image] < RECORDS",
+    help: USAGE,
+};
+
 fn main() -> ExitCode {
-    let words: Vec<String> = std::env::args().skip(1).collect();
+    run().unwrap_or_else(|status| status)
+}
+
+fn run() -> Result<ExitCode, ExitCode> {
+    let words = PROGRAM.words()?;
     let words: Vec<&str> = words.iter().map(String::as_str).collect();
-    let done = match words.as_slice() {
-        [] => print(USAGE.as_bytes(), ExitCode::SUCCESS),
-        ["compose"] => input().and_then(|input| compose(&input)),
-        ["show"] => input().and_then(|input| print_shown(show(&input))),
-        ["show", "--image"] => input().and_then(|input| print_shown(show_image(&input))),
-        _ => {
-            eprintln!("usage: records compose | records show [--image] | records");
-            return ExitCode::from(2);
-        }
-    };
-    done.unwrap_or_else(|error| {
-        eprintln!("records: {error}");
-        ExitCode::from(2)
-    })
-}
-
-fn input() -> io::Result<Vec<u8>> {
-    let mut input = Vec::new();
-    io::stdin().read_to_end(&mut input)?;
-    Ok(input)
-}
-
-fn print(bytes: &[u8], status: ExitCode) -> io::Result<ExitCode> {
-    let mut out = io::stdout();
-    out.write_all(bytes)?;
-    out.flush()?;
-    Ok(status)
-}
-
-fn compose(text: &[u8]) -> io::Result<ExitCode> {
-    match compose_bytes(text) {
-        Ok(bytes) => print(&bytes, ExitCode::SUCCESS),
-        Err(error) => {
-            eprintln!("{error}");
-            Ok(ExitCode::FAILURE)
+    match words[..] {
+        [] => Ok(print(USAGE.as_bytes(), ExitCode::SUCCESS)),
+        ["compose"] => Ok(compose(&input()?)),
+        ["show"] => shown(show),
+        ["show", "--image"] => shown(show_image),
+        ["compose", word, ..] | ["show", "--image", word, ..] | ["show", word, ..] | [word, ..] => {
+            Err(PROGRAM.wrong(&format!("{word} is not understood")))
         }
     }
 }
 
-fn print_shown(shown: Shown) -> io::Result<ExitCode> {
-    let status = match shown.malformed {
+fn input() -> Result<Vec<u8>, ExitCode> {
+    let mut input = Vec::new();
+    let read = io::stdin().read_to_end(&mut input);
+    read.map_err(|error| PROGRAM.failed(&format!("standard input: {error}")))?;
+    Ok(input)
+}
+
+fn compose(text: &[u8]) -> ExitCode {
+    match compose_bytes(text) {
+        Ok(composed) => {
+            for warning in warnings(&composed) {
+                eprintln!("records: {warning}");
+            }
+            print(&composed.bytes, ExitCode::SUCCESS)
+        }
+        Err(error) => {
+            eprintln!("{error}");
+            ExitCode::FAILURE
+        }
+    }
+}
+
+fn shown(show: fn(&[u8]) -> Shown) -> Result<ExitCode, ExitCode> {
+    let input = input()?;
+    if looks_like_text(&input) {
+        eprintln!(
+            "records: the input looks like text: `records compose` makes the bytes of a text"
+        );
+        return Ok(ExitCode::FAILURE);
+    }
+    let Shown { text, malformed } = show(&input);
+    let status = match malformed {
         true => ExitCode::FAILURE,
         false => ExitCode::SUCCESS,
     };
-    print(shown.text.as_bytes(), status)
+    Ok(print(text.as_bytes(), status))
 }

@@ -1,7 +1,7 @@
 //! One record, checkpoint or image of the text: its lines as `records compose` takes them, and the
 //! changes of its bytes below them.
 
-use crate::script;
+use crate::text;
 
 /// A message about a line of the text.
 #[derive(Debug, Clone, PartialEq, Eq)]
@@ -79,7 +79,7 @@ impl Chunk {
 
     pub fn item(&self) -> Parse<Item> {
         let lines: Vec<&str> = self.lines.iter().map(|(_, text)| text.as_str()).collect();
-        let bytes = script::compose(&lines.join("\n")).or_else(|found| {
+        let bytes = text::compose(&lines.join("\n")).or_else(|found| {
             let (line, _) = self.lines[found.place.line - 1];
             error(line, found.what)
         })?;
@@ -132,5 +132,5 @@ pub fn number(line: usize, word: &str) -> Parse<usize> {
 /// Bytes of two hexadecimal digits, at least one.
 fn hexadecimal(line: usize, words: &[&str]) -> Parse<Vec<u8>> {
     let text = format!("bytes {}", words.join(" "));
-    script::compose(&text).or_else(|found| error(line, found.what))
+    text::compose(&text).or_else(|found| error(line, found.what))
 }

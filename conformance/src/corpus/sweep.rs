@@ -5,7 +5,7 @@
 
 use super::call::{Call, Sort, CHECKPOINT_SIZE, IMAGE_SIZE};
 use super::make::{Slices, GUARD};
-use crate::script;
+use crate::text;
 
 /// What is done with a derived call and the number it is to return; an error ends the sweep.
 pub type Each<'a> = &'a mut dyn FnMut(&Call, Slices, u32) -> Result<(), String>;
@@ -117,7 +117,7 @@ const RECORDS: [&str; 4] = [
 
 /// A record of another sort in the place of this one.
 fn misplaced(call: &Call, place: usize, each: Each) -> Swept {
-    let composed = RECORDS.iter().filter_map(|text| script::compose(text).ok());
+    let composed = RECORDS.iter().filter_map(|text| text::compose(text).ok());
     let others: Vec<Vec<u8>> = composed.chain(call.slices.clone()).collect();
     let own = sort_of(&call.slices[place]);
     for other in others.into_iter().filter(|other| sort_of(other) != own) {
@@ -188,7 +188,7 @@ pub fn image_in_calls(image: &[u8], is_good: bool, each: Each) -> Swept {
         true => numbers_of(image),
         false => (1, 1),
     };
-    let records = ASKED.map(|text| script::compose(text).unwrap_or_default());
+    let records = ASKED.map(|text| text::compose(text).unwrap_or_default());
     let [announcement, sheet, login_0] = records;
     for (sort, records, number) in [
         (Sort::Checkpoint, vec![], u32::from(!is_good)),

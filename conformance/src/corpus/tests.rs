@@ -5,7 +5,7 @@ use super::check::Checker;
 use super::export;
 use super::file::read;
 use super::walk::Found;
-use crate::script;
+use crate::text;
 use std::path::{Path, PathBuf};
 
 fn folder() -> PathBuf {
@@ -118,7 +118,7 @@ fn hazards_and_the_printed_run_compose() {
     for name in names().iter().filter(plain) {
         let runs = read(&text(name)).unwrap();
         let run = export::only_run(&runs).unwrap();
-        assert_eq!(script::compose(&text(name)), Ok(run.input()), "{name}");
+        assert_eq!(text::compose(&text(name)), Ok(run.input()), "{name}");
     }
 }
 

@@ -2,7 +2,6 @@
 //! ones zero."
 
 use super::bytes::{all_zero, record, require, Malformed, Read, Reader};
-use super::fault::{on, Fault as F};
 use super::state::{Cycle, Day, Minima, Subject};
 
 /// The nine actions with their arguments.
@@ -31,23 +30,17 @@ pub struct Announcement {
 
 impl Announcement {
     pub fn read(bytes: &[u8]) -> Read<Self> {
-        let (kind, mut reader) = record(bytes, F::AnnouncementLengthUnchecked)?;
-        let kind = read_kind(kind);
-        let cycle = reader.u32()?;
-        require(cycle > 0 || !on(F::AnnouncementCycle0Malformed))?;
-        let day = reader.u32()?;
+        let (kind, mut reader) = record(bytes)?;
+        let cycle = Cycle::new(reader.u32()?);
+        let day = Day::new(reader.u32()?);
         let arguments = reader.take(12)?;
-        reader.end(F::AnnouncementTailTaken)?;
+        reader.end()?;
         Ok(Announcement {
             kind,
-            cycle: Cycle::new(cycle),
-            day: Day::new(if on(F::AnnouncementDayBigEndian) {
-                day.swap_bytes()
-            } else {
-                day
-            }),
+            cycle,
+            day,
             action: read_action(kind, arguments)?,
-            bytes: bytes.iter().take(24).copied().collect(),
+            bytes: bytes.to_vec(),
         })
     }
 
@@ -65,37 +58,28 @@ impl Announcement {
     }
 }
 
-fn read_kind(kind: u16) -> u16 {
-    match kind {
-        10 if on(F::KindTenTaken) => 9,
-        _ if on(F::KindHighByteIgnored) => kind & 0xff,
-        _ => kind,
-    }
-}
-
 /// The arguments of a kind, from 12 bytes or from the 8 of a subject.
 fn read_action(kind: u16, bytes: &[u8]) -> Read<Action> {
     let mut reader = Reader::new(bytes);
     let action = match kind {
         1 => Action::Propose(read_subject(&mut reader)?),
-        2 => Action::Cancel(read_cancel(&mut reader)?),
+        2 => Action::Cancel(Cycle::new(reader.u32()?)),
         3 => read_presents(&mut reader)?,
         4 => read_certify(&mut reader)?,
         5 => Action::Minima(read_minima(&mut reader)?),
         6 => Action::Remove {
-            seat: reader.seat(F::ActionSeat32)?,
+            seat: reader.seat()?,
         },
         7 => read_rejoin(&mut reader)?,
         8 => read_grant(&mut reader)?,
-        9 => read_end(&mut reader)?,
+        // Login 0 is well formed and meets rule 13.
+        9 => Action::End {
+            login: reader.u32()?,
+        },
         _ => return Err(Malformed),
     };
-    let unchecked = match (kind, bytes.len()) {
-        (1, _) => F::ProposeUnusedUnchecked,
-        (_, 8) => F::SubjectUnusedUnchecked,
-        _ => F::UnusedArgumentsUnchecked,
-    };
-    require(all_zero(reader.rest()) || on(unchecked))?;
+    // "unused ones zero"
+    require(all_zero(reader.rest()))?;
     Ok(action)
 }
 
@@ -104,43 +88,30 @@ fn read_action(kind: u16, bytes: &[u8]) -> Read<Action> {
 pub fn read_subject(reader: &mut Reader) -> Read<Subject> {
     let kind = reader.u16()?;
     let arguments = reader.take(8)?;
-    require(
-        matches!(kind, 4..=6)
-            || kind == 7 && on(F::SubjectKind7)
-            || kind == 3 && on(F::SubjectKind3),
-    )?;
-    if !on(F::SubjectArgumentsUnchecked) {
-        read_action(kind, arguments)?;
-    }
+    require(matches!(kind, 4..=6))?;
+    read_action(kind, arguments)?;
     Ok(Subject {
         kind,
         arguments: arguments.to_vec(),
     })
 }
 
-/// "cycle 4"
-fn read_cancel(reader: &mut Reader) -> Read<Cycle> {
-    let cycle = reader.u32()?;
-    require(cycle > 0 || !on(F::CancelCycle0Malformed))?;
-    Ok(Cycle::new(cycle))
-}
-
 /// "seat 1, flag 1 (1 or 0)"
 fn read_presents(reader: &mut Reader) -> Read<Action> {
-    let seat = reader.seat(F::ActionSeat32)?;
+    let seat = reader.seat()?;
     let flag = reader.u8()?;
-    require(flag < 2 || flag == 2 && on(F::PresentsFlag2))?;
+    require(flag <= 1)?;
     Ok(Action::Presents {
         seat,
-        flag: flag != 0,
+        flag: flag == 1,
     })
 }
 
 /// "seat 1, life 4 (at least 1)"
 fn read_certify(reader: &mut Reader) -> Read<Action> {
-    let seat = reader.seat(F::ActionSeat32)?;
+    let seat = reader.seat()?;
     let life = reader.u32()?;
-    require(life > 0 || on(F::CertifyLife0))?;
+    require(life >= 1)?;
     Ok(Action::Certify { seat, life })
 }
 
@@ -149,11 +120,9 @@ pub fn read_minima(reader: &mut Reader) -> Read<Minima> {
     let margin = reader.u8()?;
     let least_quorum = reader.u8()?;
     let silence = reader.u16()?;
-    require(margin <= 7 || margin == 8 && on(F::Margin8))?;
-    require(least_quorum >= 1 || on(F::LeastQuorum0))?;
-    require(least_quorum <= 32 || least_quorum == 33 && on(F::LeastQuorum33))?;
-    require(silence >= 1 || on(F::Silence0))?;
-    require(silence <= 365 || silence == 366 && on(F::Silence366))?;
+    require(margin <= 7)?;
+    require((1..=32).contains(&least_quorum))?;
+    require((1..=365).contains(&silence))?;
     Ok(Minima {
         margin,
         least_quorum,
@@ -163,9 +132,8 @@ pub fn read_minima(reader: &mut Reader) -> Read<Minima> {
 
 /// "seat 1, life 4"; life 0 is well formed and meets rule 9 or 14.
 fn read_rejoin(reader: &mut Reader) -> Read<Action> {
-    let seat = reader.seat(F::ActionSeat32)?;
+    let seat = reader.seat()?;
     let life = reader.u32()?;
-    require(life > 0 || !on(F::RejoinLife0Malformed))?;
     Ok(Action::Rejoin { seat, life })
 }
 
@@ -174,14 +142,7 @@ fn read_grant(reader: &mut Reader) -> Read<Action> {
     let login = reader.u32()?;
     let end = Day::new(reader.u32()?);
     let rights = reader.u16()?;
-    require(login > 0 || on(F::GrantLogin0))?;
-    require(rights != 0 || on(F::GrantRights0))?;
+    require(login >= 1)?;
+    require(rights != 0)?;
     Ok(Action::Grant { login, end, rights })
-}
-
-/// "login 4"; login 0 is well formed and meets rule 13.
-fn read_end(reader: &mut Reader) -> Read<Action> {
-    let login = reader.u32()?;
-    require(login > 0 || !on(F::EndLogin0Malformed))?;
-    Ok(Action::End { login })
 }

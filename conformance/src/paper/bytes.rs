@@ -1,7 +1,5 @@
 //! Numbers in byte slices. "Integers are little-endian."
 
-use super::fault::{on, Fault as F};
-
 /// What a reader gives for bytes outside the ranges of the document.
 #[derive(Debug, Clone, Copy, PartialEq, Eq)]
 pub struct Malformed;
@@ -51,20 +49,10 @@ impl<'a> Reader<'a> {
         Ok(self.number(4)? as u32)
     }
 
-    /// A life, 4 bytes.
-    pub fn life(&mut self) -> Read<u32> {
-        let life = self.u32()?;
-        Ok(if on(F::LifeBigEndian) {
-            life.swap_bytes()
-        } else {
-            life
-        })
-    }
-
     /// "seats are below 32"
-    pub fn seat(&mut self, seat_32: F) -> Read<u8> {
+    pub fn seat(&mut self) -> Read<u8> {
         let seat = self.u8()?;
-        require(seat < 32 || seat == 32 && on(seat_32))?;
+        require(seat < 32)?;
         Ok(seat)
     }
 
@@ -73,8 +61,8 @@ impl<'a> Reader<'a> {
     }
 
     /// Nothing is left: the slice is "exactly one record, checkpoint or image".
-    pub fn end(&self, tail_taken: F) -> Read<()> {
-        require(self.rest.is_empty() || on(tail_taken))
+    pub fn end(&self) -> Read<()> {
+        require(self.rest.is_empty())
     }
 }
 
@@ -83,10 +71,10 @@ pub fn all_zero(bytes: &[u8]) -> bool {
 }
 
 /// "A record is a 2-byte length (of what follows it), a 2-byte kind, a body." Gives kind and body.
-pub fn record(bytes: &[u8], length_unchecked: F) -> Read<(u16, Reader<'_>)> {
+pub fn record(bytes: &[u8]) -> Read<(u16, Reader<'_>)> {
     let mut reader = Reader::new(bytes);
     let length = usize::from(reader.u16()?);
-    require(length == reader.rest.len() || on(length_unchecked))?;
+    require(length == reader.rest.len())?;
     let kind = reader.u16()?;
     Ok((kind, reader))
 }
@@ -97,15 +85,4 @@ pub fn push_u16(out: &mut Vec<u8>, number: u16) {
 
 pub fn push_u32(out: &mut Vec<u8>, number: u32) {
     out.extend(number.to_le_bytes());
-}
-
-pub fn push_life(out: &mut Vec<u8>, life: u32) {
-    push_u32(
-        out,
-        if on(F::LifeBigEndian) {
-            life.swap_bytes()
-        } else {
-            life
-        },
-    );
 }

@@ -3,8 +3,7 @@
 use std::collections::BTreeMap;
 
 use super::announcement::{read_minima, read_subject};
-use super::bytes::{all_zero, push_life, push_u16, push_u32, record, require, Read, Reader};
-use super::fault::{on, Fault as F};
+use super::bytes::{all_zero, push_u16, push_u32, record, require, Read, Reader};
 use super::state::{Cycle, Day, Login, Proposal, Seat, Standing, State};
 use super::state::{MOST_LOGINS, MOST_PROPOSALS, SEATS};
 
@@ -13,10 +12,10 @@ const PROPOSAL_SIZE: usize = 18;
 const LOGIN_SIZE: usize = 10;
 
 pub fn read(bytes: &[u8]) -> Read<State> {
-    let (kind, mut reader) = record(bytes, F::CheckpointLengthUnchecked)?;
-    require(kind == 16 || on(F::CheckpointKindUnchecked))?;
+    let (kind, mut reader) = record(bytes)?;
+    require(kind == 16)?;
     let cycle = reader.u32()?;
-    require(cycle >= 1 || on(F::CheckpointCycle0))?;
+    require(cycle >= 1)?;
     let day = reader.u32()?;
     let trustees = [read_trustees(&mut reader)?, read_trustees(&mut reader)?];
     let minima = read_minima(&mut reader)?;
@@ -30,9 +29,9 @@ pub fn read(bytes: &[u8]) -> Read<State> {
         proposals: read_proposals(&mut reader)?,
         logins: read_logins(&mut reader)?,
     };
-    reader.end(F::CheckpointTailTaken)?;
+    reader.end()?;
     // "quorum at most p"
-    require(state.quorum() <= state.present() || on(F::CheckpointQuorumAboveP))?;
+    require(state.quorum() <= state.present())?;
     require(proposals_fit(&state))?;
     Ok(state)
 }
@@ -40,58 +39,37 @@ pub fn read(bytes: &[u8]) -> Read<State> {
 /// "numbers of level-1 and level-2 trustees (1 to 8 each)"
 fn read_trustees(reader: &mut Reader) -> Read<u8> {
     let trustees = reader.u8()?;
-    require(trustees >= 1 || on(F::Trustees0))?;
-    require(trustees <= 8 || trustees == 9 && on(F::Trustees9))?;
-    Ok(trustees.min(8))
+    require((1..=8).contains(&trustees))?;
+    Ok(trustees)
 }
 
 /// "standing 1, life 4"; "Life is 32 bits, 0 exactly at free seats."
 fn read_seat(reader: &mut Reader) -> Read<Seat> {
     let standing = Standing::read(reader.u8()?)?;
-    let life = reader.life()?;
-    match standing {
-        Standing::Free => require(life == 0 || on(F::LifeOnFreeSeat))?,
-        _ => require(life > 0 || on(F::Life0OnHeldSeat))?,
-    }
+    let life = reader.u32()?;
+    require((life == 0) == (standing == Standing::Free))?;
     Ok(Seat { standing, life })
 }
 
-/// The used rows of a table, in the order they stand: "Unused rows are zero." The faults are those
-/// of the count, of a count one too high and of the unused rows.
-fn used_rows<'a>(
-    reader: &mut Reader<'a>,
-    most: usize,
-    size: usize,
-    faults: [F; 3],
-) -> Read<Vec<&'a [u8]>> {
+/// The used rows of a table, in the order they stand: "Unused rows are zero."
+fn used_rows<'a>(reader: &mut Reader<'a>, most: usize, size: usize) -> Read<Vec<&'a [u8]>> {
     let count = usize::from(reader.u8()?);
     let rows = reader.take(most * size)?.chunks(size);
-    if on(faults[0]) {
-        return Ok(rows.take_while(|row| !all_zero(row)).collect());
-    }
-    require(count <= most || count == most + 1 && on(faults[1]))?;
-    let unused_zero = rows.clone().skip(count).all(all_zero);
-    require(unused_zero || on(faults[2]))?;
+    require(count <= most)?;
+    require(rows.clone().skip(count).all(all_zero))?;
     Ok(rows.take(count).collect())
 }
 
 /// "proposal count 1, 16 times cycle 4, day 4, subject kind 2, subject arguments 8"
 fn read_proposals(reader: &mut Reader) -> Read<Vec<Proposal>> {
-    let faults = [
-        F::ProposalCountUnchecked,
-        F::ProposalCount17,
-        F::UnusedProposalUnchecked,
-    ];
-    let rows = used_rows(reader, MOST_PROPOSALS, PROPOSAL_SIZE, faults)?;
+    let rows = used_rows(reader, MOST_PROPOSALS, PROPOSAL_SIZE)?;
     rows.into_iter().map(read_proposal).collect()
 }
 
 fn read_proposal(row: &[u8]) -> Read<Proposal> {
     let mut reader = Reader::new(row);
-    let cycle = reader.u32()?;
-    require(cycle > 0 || !on(F::ProposalCycle0Malformed))?;
     Ok(Proposal {
-        cycle: Cycle::new(cycle),
+        cycle: Cycle::new(reader.u32()?),
         day: Day::new(reader.u32()?),
         subject: read_subject(&mut reader)?,
     })
@@ -99,34 +77,19 @@ fn read_proposal(row: &[u8]) -> Read<Proposal> {
 
 /// "proposals in strictly rising cycle below the cycle, day at most the agreed day"
 fn proposals_fit(state: &State) -> bool {
-    let pairs = state.proposals.iter().zip(state.proposals.iter().skip(1));
-    let rising = pairs.clone().all(|(a, b)| match () {
-        _ if on(F::ProposalsEqualCycle) => a.cycle <= b.cycle,
-        _ if on(F::ProposalsFalling) => a.cycle != b.cycle,
-        _ if on(F::ProposalDaysMustRise) => a.cycle < b.cycle && a.day <= b.day,
-        _ => a.cycle < b.cycle,
-    });
-    let in_time = state.proposals.iter().all(|proposal| {
-        let earlier = proposal.cycle < state.cycle
-            || proposal.cycle == state.cycle && on(F::ProposalOfCurrentCycle);
-        earlier && (proposal.day <= state.day || on(F::ProposalDayAhead))
-    });
-    rising && in_time
+    let mut pairs = state.proposals.iter().zip(state.proposals.iter().skip(1));
+    let rising = pairs.all(|(a, b)| a.cycle < b.cycle);
+    let in_time = |p: &Proposal| p.cycle < state.cycle && p.day <= state.day;
+    rising && state.proposals.iter().all(in_time)
 }
 
 /// "login count 1, 64 times login 4, end day 4, rights 2"; "logins at least 1 and strictly rising,
 /// rights not zero".
 fn read_logins(reader: &mut Reader) -> Read<BTreeMap<u32, Login>> {
-    let faults = [
-        F::LoginCountUnchecked,
-        F::LoginCount65,
-        F::UnusedLoginUnchecked,
-    ];
-    let rows = used_rows(reader, MOST_LOGINS, LOGIN_SIZE, faults)?;
+    let rows = used_rows(reader, MOST_LOGINS, LOGIN_SIZE)?;
     let rows = rows.into_iter().map(read_login).collect::<Read<Vec<_>>>()?;
     let mut pairs = rows.iter().zip(rows.iter().skip(1));
-    let rising = pairs.all(|(a, b)| a.0 < b.0 || on(F::LoginsNotRising));
-    require(rising)?;
+    require(pairs.all(|(a, b)| a.0 < b.0))?;
     Ok(rows.into_iter().collect())
 }
 
@@ -135,8 +98,8 @@ fn read_login(row: &[u8]) -> Read<(u32, Login)> {
     let login = reader.u32()?;
     let end = Day::new(reader.u32()?);
     let rights = reader.u16()?;
-    require(login >= 1 || on(F::CheckpointLogin0))?;
-    require(rights != 0 || on(F::CheckpointRights0))?;
+    require(login >= 1)?;
+    require(rights != 0)?;
     Ok((login, Login { end, rights }))
 }
 
@@ -152,7 +115,7 @@ pub fn write(state: &State) -> Vec<u8> {
     push_u16(&mut out, state.minima.silence);
     for seat in &state.seats {
         out.push(seat.standing as u8);
-        push_life(&mut out, seat.life);
+        push_u32(&mut out, seat.life);
     }
     write_proposals(state, &mut out);
     write_logins(state, &mut out);
@@ -162,7 +125,7 @@ pub fn write(state: &State) -> Vec<u8> {
 fn write_proposals(state: &State, out: &mut Vec<u8>) {
     out.push(state.proposals.len() as u8);
     let end = out.len() + MOST_PROPOSALS * PROPOSAL_SIZE;
-    for proposal in state.proposals.iter().take(MOST_PROPOSALS) {
+    for proposal in &state.proposals {
         push_u32(out, proposal.cycle.number());
         push_u32(out, proposal.day.number());
         push_u16(out, proposal.subject.kind);
@@ -174,7 +137,7 @@ fn write_proposals(state: &State, out: &mut Vec<u8>) {
 fn write_logins(state: &State, out: &mut Vec<u8>) {
     out.push(state.logins.len() as u8);
     let end = out.len() + MOST_LOGINS * LOGIN_SIZE;
-    for (login, listed) in state.logins.iter().take(MOST_LOGINS) {
+    for (login, listed) in &state.logins {
         push_u32(out, *login);
         push_u32(out, listed.end.number());
         push_u16(out, listed.rights);

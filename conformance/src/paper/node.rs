@@ -1,7 +1,6 @@
 //! The node by value: what it holds, deliver and checkpoint.
 
 use super::announcement::Announcement;
-use super::fault::{on, Fault as F};
 use super::records::Sheet;
 use super::state::{Standing, State};
 use super::Answer::{self, Done, No, Voted};
@@ -43,107 +42,48 @@ impl Node {
     }
 
     pub(super) fn deliver_read(&mut self, announcement: &Announcement, sheet: &Sheet) -> Answer {
-        if on(F::RefusesAll) {
-            return No(4);
-        }
-        if self.is_halted() && !on(F::HaltedDelivers) {
+        if self.is_halted() {
             return No(3);
         }
         if let Some(number) = rules::refusal(&self.state, announcement, sheet) {
             return No(number);
         }
-        let next = actions::perform(&self.state, announcement);
-        let refused = self.vote_refusal(announcement);
-        let performs_only_voters = match refused {
-            Some(15) => on(F::PerformNeedsPresentSeat),
-            Some(_) => on(F::PerformNeedsOwnVote),
-            None => false,
-        };
-        if self.shows_quorum(sheet, &next) && !performs_only_voters {
-            self.move_to(next, sheet);
+        // "the sheet shows a quorum of the state before the action"; only its rows count.
+        if sheet.votes(&self.state) >= self.state.quorum() {
+            self.perform(announcement);
             return Done;
         }
-        self.vote(announcement, refused)
-    }
-
-    /// "the sheet shows a quorum of the state before the action"; only its rows count.
-    fn shows_quorum(&self, sheet: &Sheet, next: &State) -> bool {
-        let votes = sheet.votes(&self.state);
-        match self.state.quorum() {
-            _ if on(F::NeverPerforms) => false,
-            _ if on(F::QuorumAfterAction) => votes >= next.quorum(),
-            quorum if on(F::QuorumNotEnough) => votes > quorum,
-            quorum if on(F::OwnVoteCounted) => votes + 1 >= quorum,
-            quorum => votes >= quorum,
-        }
+        self.vote(announcement)
     }
 
     /// "the node performs it: cycle plus 1, day as announced, vote cleared, misses 0"
-    fn move_to(&mut self, next: State, sheet: &Sheet) {
-        if !on(F::PretendsToPerform) {
-            self.state = next;
-        }
-        if on(F::MasksKept) {
-            self.state.trustees[0] = sheet.masks[0].count_ones().max(1) as u8;
-        }
-        if on(F::OwnLifeFollowsRejoin) {
-            self.life = self.state.seat(self.seat).life;
-        }
-        if !on(F::VoteKept) {
-            self.vote = None;
-        }
-        if !on(F::PerformKeepsMisses) {
-            self.misses = 0;
-        }
+    fn perform(&mut self, announcement: &Announcement) {
+        self.state = actions::perform(&self.state, announcement);
+        self.vote = None;
+        self.misses = 0;
     }
 
-    /// Rules 15 and 16, asked where there is no quorum.
-    fn vote_refusal(&self, announcement: &Announcement) -> Option<u8> {
-        let order = if on(F::Rule16Before15) {
-            [16, 15]
-        } else {
-            [15, 16]
-        };
-        let applies = |number: &u8| match number {
-            15 => !self.may_vote(),
-            _ => self.voted_otherwise(announcement),
-        };
-        order.into_iter().find(applies)
+    /// "Without a quorum it votes, unless 15 or 16 applies"
+    fn vote(&mut self, announcement: &Announcement) -> Answer {
+        if !self.may_vote() {
+            return No(15);
+        }
+        if self.voted_otherwise(announcement) {
+            return No(16);
+        }
+        self.vote = Some(announcement.bytes.clone());
+        Voted
     }
 
     /// Rule 15 asks for the contrary: "own seat not present or own life not listed".
     fn may_vote(&self) -> bool {
         let listed = self.state.seat(self.seat);
-        let present = listed.standing == Standing::Present || on(F::CertifiedVotes);
-        let life = match () {
-            _ if on(F::UnlistedLifeVotes) => self.life >= listed.life,
-            _ if on(F::EarlierLifeVotes) => self.life <= listed.life,
-            _ => self.life == listed.life,
-        };
-        present && life
+        listed.standing == Standing::Present && self.life == listed.life
     }
 
     /// "voted for other bytes this cycle"; "the same 24 bytes later in that cycle get the same vote"
     fn voted_otherwise(&self, announcement: &Announcement) -> bool {
-        let compared = if on(F::VoteComparedByKind) { 4 } else { 24 };
-        match &self.vote {
-            None => on(F::VotedOtherwiseWithNothing),
-            Some(_) if on(F::SameVoteRefused) => true,
-            Some(vote) => vote[..compared] != announcement.bytes[..compared] && !on(F::SecondVote),
-        }
-    }
-
-    /// "Without a quorum it votes, unless 15 or 16 applies"
-    fn vote(&mut self, announcement: &Announcement, refused: Option<u8>) -> Answer {
-        if let Some(number) = refused {
-            return No(number);
-        }
-        if !on(F::VoteNotStored) {
-            self.vote = Some(announcement.bytes.clone());
-        }
-        if on(F::VoteClearsMisses) {
-            self.misses = 0;
-        }
-        Voted
+        let vote = self.vote.as_ref();
+        vote.is_some_and(|vote| *vote != announcement.bytes)
     }
 }

@@ -1,6 +1,5 @@
 //! The program node-run on a whole input.
 
-use super::fault::{on, Fault as F};
 use super::node::Node;
 use super::start::start;
 use super::Answer::{self, Done, Given, No, Open, Started, Voted};
@@ -21,23 +20,14 @@ pub fn node_run(input: &[u8]) -> Vec<u8> {
         node: None,
     };
     let mut lines = String::new();
-    let mut ordinal = u64::from(!on(F::RunOrdinalFrom0));
+    let mut ordinal: u64 = 1;
     // "input that ends before a request just ends the run"
-    while !run.rest.is_empty() || on(F::RunEndPrintsNo) {
-        if on(F::RunStrayByteSilent) && run.rest.len() == 1 {
-            break;
-        }
-        let before = run.cycle();
-        let answered = run.request();
-        let cycle = match answered {
-            Err(_) if on(F::RunCutPrintsCycle0) => 0,
-            _ if on(F::RunCycleBefore) => before,
-            _ => run.cycle(),
+    while !run.rest.is_empty() {
+        let (answer, ends) = match run.request() {
+            Ok(answer) => (answer, false),
+            Err(Ends) => (No(1), true),
         };
-        let ends = answered.is_err() && (run.rest.is_empty() || !on(F::RunGoesOn));
-        let answer = answered.unwrap_or(No(1));
-        let ends = ends || answer == No(1) && on(F::RunMalformedEnds);
-        lines += &format!("{ordinal} {} {cycle}\n", word(answer));
+        lines += &format!("{ordinal} {} {}\n", word(answer), run.cycle());
         ordinal += 1;
         if ends {
             break;
@@ -60,16 +50,14 @@ fn word(answer: Answer) -> String {
 
 /// The whole bytes of the shortest record of a kind that has a place.
 fn least_size(kind: u16) -> Option<usize> {
-    let (size, one_less) = match kind {
-        1..=9 => (24, F::RunAnnouncement23),
-        16 => (1108, F::RunCheckpoint1107),
-        18 if on(F::RunSheet12) => return Some(12),
-        18 => (7, F::RunSheet6),
-        19 => (9, F::RunStart8),
-        20 => (13, F::RunQuery12),
+    Some(match kind {
+        1..=9 => 24,
+        16 => 1108,
+        18 => 7,
+        19 => 9,
+        20 => 13,
         _ => return None,
-    };
-    Some(size - usize::from(on(one_less)))
+    })
 }
 
 impl<'a> Run<'a> {
@@ -94,14 +82,8 @@ impl<'a> Run<'a> {
         }
         let (record, rest) = input.split_at(2 + length);
         self.rest = rest;
-        let kind = if on(F::RunKindLowByte) {
-            kind & 0xff
-        } else {
-            kind
-        };
         // "A record too short for its kind (a sheet: under 7 bytes) ... counts as cut".
-        let least = least_size(kind).ok_or(Ends)?;
-        if record.len() < least && !on(F::RunShortAnswered) {
+        if record.len() < least_size(kind).ok_or(Ends)? {
             return Err(Ends);
         }
         Ok((kind, record))
@@ -121,14 +103,9 @@ impl<'a> Run<'a> {
     fn request(&mut self) -> Result<Answer, Ends> {
         let (kind, first) = self.record()?;
         match kind {
-            16 if on(F::RunCheckpointFirst) => {
-                let second = self.second(19)?;
-                Ok(self.start(first, second))
-            }
-            19 if on(F::RunSecondStartMisplaced) && self.node.is_some() => Err(Ends),
             19 => {
-                let second = self.second(16)?;
-                Ok(self.start(second, first))
+                let checkpoint = self.second(16)?;
+                Ok(self.start(checkpoint, first))
             }
             1..=9 => self.deliver(first),
             // "an announcement or query before any node" ends the run.
@@ -141,17 +118,10 @@ impl<'a> Run<'a> {
     fn start(&mut self, checkpoint: &[u8], record: &[u8]) -> Answer {
         match start(checkpoint, record) {
             Ok(node) => {
-                if self.node.is_none() || !on(F::RunLaterStartIgnored) {
-                    self.node = Some(node);
-                }
+                self.node = Some(node);
                 Started
             }
-            Err(number) => {
-                if on(F::RefusedStartLosesNode) {
-                    self.node = None;
-                }
-                No(number)
-            }
+            Err(number) => No(number),
         }
     }
 
@@ -159,10 +129,6 @@ impl<'a> Run<'a> {
     fn deliver(&mut self, announcement: &[u8]) -> Result<Answer, Ends> {
         if self.node.is_none() {
             return Err(Ends);
-        }
-        let malformed = super::announcement::Announcement::read(announcement).is_err();
-        if on(F::RunMalformedTakesNoSheet) && malformed {
-            return Ok(No(1));
         }
         let sheet = self.second(18)?;
         let node = self.node.as_mut().ok_or(Ends)?;

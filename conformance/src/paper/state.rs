@@ -2,8 +2,7 @@
 
 use std::collections::BTreeMap;
 
-use super::bytes::{require, Read};
-use super::fault::{on, Fault as F};
+use super::bytes::{Malformed, Read};
 
 pub const SEATS: usize = 32;
 pub const MOST_PROPOSALS: usize = 16;
@@ -44,8 +43,9 @@ impl Cycle {
         self.0 as u32
     }
 
-    pub fn plus(self, steps: u64) -> Self {
-        Cycle(self.0 + steps)
+    /// "cycle plus 1"
+    pub fn next(self) -> Self {
+        Cycle(self.0 + 1)
     }
 }
 
@@ -60,12 +60,12 @@ pub enum Standing {
 
 impl Standing {
     pub fn read(byte: u8) -> Read<Self> {
-        require(byte < 4 || byte == 4 && on(F::StandingFour))?;
         Ok(match byte {
             0 => Standing::Free,
             1 => Standing::Certified,
             2 => Standing::Present,
-            _ => Standing::Retired,
+            3 => Standing::Retired,
+            _ => return Err(Malformed),
         })
     }
 }
@@ -143,11 +143,7 @@ impl State {
 
     /// "p present seats"
     pub fn present(&self) -> usize {
-        let counted = |seat: &&Seat| match seat.standing {
-            Standing::Present => true,
-            Standing::Certified => on(F::PresentWithCertified),
-            _ => false,
-        };
+        let counted = |seat: &&Seat| seat.standing == Standing::Present;
         self.seats.iter().filter(counted).count()
     }
 
@@ -156,16 +152,7 @@ impl State {
         let p = self.present();
         let m = usize::from(self.minima.margin);
         let k = usize::from(self.minima.least_quorum);
-        let majority = match () {
-            _ if on(F::MajorityByHalf) => p.div_ceil(2) + m,
-            _ if on(F::MarginNotAdded) => p / 2 + 1,
-            _ if on(F::MarginTwice) => p / 2 + 1 + 2 * m,
-            _ => p / 2 + 1 + m,
-        };
-        match () {
-            _ if on(F::LeastQuorumIgnored) => majority,
-            _ if on(F::QuorumSmallerOfBoth) => majority.min(k),
-            _ => majority.max(k),
-        }
+        let majority = p / 2 + 1 + m;
+        majority.max(k)
     }
 }

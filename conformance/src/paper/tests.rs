@@ -1,9 +1,7 @@
-//! The document's examples, and that every planted fault shows.
+//! The document's examples.
 
 mod build;
-mod faults;
 mod printed;
-mod records;
 mod round_trip;
 mod states;
 mod table;

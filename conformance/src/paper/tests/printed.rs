@@ -3,6 +3,7 @@
 use super::build::*;
 use crate::paper::checkpoint;
 use crate::paper::run::node_run;
+use crate::paper::state::Cycle;
 
 const PRINTED: [&str; 6] = [
     "1 started 1\n",
@@ -143,7 +144,7 @@ fn malformed_in_its_place() {
 /// A refused start and an accepted one.
 fn later_starts() -> Vec<Vec<u8>> {
     let mut moved = park();
-    moved.cycle = moved.cycle.plus(6);
+    moved.cycle = Cycle::new(7);
     let moved = checkpoint::write(&moved);
     vec![
         [start(5, 1), moved.clone()].concat(),
@@ -155,17 +156,4 @@ fn later_starts() -> Vec<Vec<u8>> {
 fn a_later_start() {
     let input = [requests()[..1].to_vec(), later_starts()].concat();
     assert_eq!(printed(&input), "1 started 1\n2 no 9 1\n3 started 7\n");
-}
-
-/// All these runs.
-pub fn runs() -> Vec<Vec<u8>> {
-    let whole = requests().concat();
-    let mut runs = vec![whole.clone(), whole[..whole.len() - 12].to_vec()];
-    runs.extend(too_early().into_iter().map(|r| [r, whole.clone()].concat()));
-    let malformed = malformed().into_iter().map(|(request, _)| request);
-    for request in ending().into_iter().chain(malformed).chain(later_starts()) {
-        let input = [requests()[0].clone(), request, query(1, 1, 0)];
-        runs.push(input.concat());
-    }
-    runs
 }

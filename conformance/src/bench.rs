@@ -1,0 +1,5 @@
+//! How long each call takes, by each implementation.
+
+pub mod cases;
+pub mod measure;
+mod tuned;

@@ -1,4 +1,0 @@
-//! How long each call takes, by each implementation.
-
-pub mod cases;
-pub mod measure;

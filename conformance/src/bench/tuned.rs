@@ -1,0 +1,20 @@
+//! Document 01 once more, written for speed alone: what the bench measures the archive against. It
+//! exists for the bench and may be dropped with it.
+//!
+//! No heap: a node is one struct on the stack, read and checked in one pass over the image. The rules
+//! and actions work on references. Where a call leaves the state as it was, the image that it writes
+//! is a copy of the one it got.
+
+mod actions;
+mod announcement;
+mod bytes;
+mod calls;
+mod image;
+mod records;
+mod rules;
+mod state;
+
+pub use calls::{node_checkpoint, node_deliver, node_query, node_start};
+
+#[cfg(test)]
+mod tests;

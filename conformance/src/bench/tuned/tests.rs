@@ -1,0 +1,42 @@
+//! The version written for speed answers and writes as the second implementation does.
+
+use crate::bench::measure::TUNED;
+use crate::compare::call::{Calls, Request};
+use crate::compare::make::random::Random;
+use crate::compare::make::{lone_requests, sweeps};
+use crate::compare::PAPER;
+
+fn outcome(calls: &Calls, request: &Request) -> (u32, Vec<u8>) {
+    let mut out = vec![0xa5; request.out];
+    let number = calls.make(&request.image, &request.records, &mut out);
+    (number, out)
+}
+
+fn compare(request: &Request) -> Result<(), String> {
+    let (tuned, paper) = (outcome(&TUNED, request), outcome(&PAPER.calls, request));
+    if tuned == paper {
+        return Ok(());
+    }
+    Err(format!("{} for {}: {request:?}", tuned.0, paper.0))
+}
+
+#[test]
+fn answers_as_the_second_implementation() {
+    let mut rng = Random::new(1);
+    for request in lone_requests::ends() {
+        compare(&request).unwrap();
+    }
+    for _ in 0..20_000 {
+        for request in lone_requests::requests(&mut rng) {
+            compare(&request).unwrap();
+        }
+    }
+}
+
+#[test]
+fn answers_so_on_damaged_input() {
+    let mut rng = Random::new(2);
+    for base in sweeps::bases(&mut rng) {
+        sweeps::sweep(&mut rng, &base, &mut compare).unwrap();
+    }
+}

@@ -1,0 +1,142 @@
+//! Calls: their inputs, their output slices, what of it they write, and the four functions of an
+//! implementation that make them.
+
+use crate::archive;
+use crate::layout::{CHECKPOINT_SIZE, IMAGE_SIZE};
+
+/// The records handed to a call at a host.
+#[derive(Clone, PartialEq, Debug)]
+pub enum Records {
+    /// A checkpoint and a start.
+    Start(Vec<u8>, Vec<u8>),
+    /// An announcement and a sheet.
+    Deliver(Vec<u8>, Vec<u8>),
+    Query(Vec<u8>),
+    Checkpoint,
+}
+
+/// A call of a history: at a host, with an output slice of `out` bytes.
+#[derive(Clone, PartialEq, Debug)]
+pub struct Call {
+    pub host: usize,
+    pub records: Records,
+    pub out: usize,
+}
+
+/// A park's history. Hosts keep a node by value or an image, as `by_value` says.
+#[derive(Clone, PartialEq, Debug, Default)]
+pub struct History {
+    pub by_value: Vec<bool>,
+    pub first: Vec<u8>,
+    pub calls: Vec<Call>,
+}
+
+/// A call that stands alone: `image` is what the node held, empty for a start.
+#[derive(Clone, PartialEq, Debug)]
+pub struct Request {
+    pub image: Vec<u8>,
+    pub records: Records,
+    pub out: usize,
+}
+
+/// What a call answered, and the image or checkpoint that it wrote.
+#[derive(Clone, PartialEq, Debug)]
+pub struct Outcome {
+    pub number: u32,
+    pub written: Option<Vec<u8>>,
+}
+
+/// A call that was made, with its outcome.
+pub struct Event {
+    pub request: Request,
+    pub outcome: Outcome,
+}
+
+pub const VOTED: u32 = 128;
+
+pub const CALLS: [&str; 4] = ["start", "deliver", "query", "checkpoint"];
+
+/// The answers that each call can give, in the order of `CALLS`.
+pub fn possible_answers(call: usize) -> Vec<u32> {
+    match call {
+        0 => vec![0, 1, 9, 14, 22],
+        1 => (0..=16).chain([22, VOTED]).collect(),
+        2 => vec![0, 1, 3, 17, 18, 19, 20, 21, 22],
+        _ => vec![0, 1, 22],
+    }
+}
+
+impl Records {
+    /// The place of the call in `CALLS`.
+    pub fn index(&self) -> usize {
+        match self {
+            Records::Start(..) => 0,
+            Records::Deliver(..) => 1,
+            Records::Query(..) => 2,
+            Records::Checkpoint => 3,
+        }
+    }
+
+    pub fn name(&self) -> &'static str {
+        CALLS[self.index()]
+    }
+
+    /// The records as node-run takes them: a start comes before its checkpoint.
+    pub fn in_order(&self) -> Vec<&Vec<u8>> {
+        match self {
+            Records::Start(checkpoint, start) => vec![start, checkpoint],
+            Records::Deliver(announcement, sheet) => vec![announcement, sheet],
+            Records::Query(query) => vec![query],
+            Records::Checkpoint => vec![],
+        }
+    }
+
+    /// The bytes that a whole output needs.
+    pub fn size(&self) -> usize {
+        if *self == Records::Checkpoint {
+            CHECKPOINT_SIZE
+        } else {
+            IMAGE_SIZE
+        }
+    }
+
+    /// Whether a call that answers `number` writes its output: a query also for a miss.
+    pub fn writes(&self, number: u32) -> bool {
+        let is_miss = matches!(self, Records::Query(..)) && (19..=21).contains(&number);
+        number == 0 || number == VOTED || is_miss
+    }
+}
+
+type Deliver = fn(&[u8], &[u8], &[u8], &mut [u8]) -> u32;
+
+/// The four calls of one implementation, as C sees them.
+pub struct Calls {
+    pub name: &'static str,
+    pub start: fn(&[u8], &[u8], &mut [u8]) -> u32,
+    pub deliver: Deliver,
+    pub query: fn(&[u8], &[u8], &mut [u8]) -> u32,
+    pub checkpoint: fn(&[u8], &mut [u8]) -> u32,
+}
+
+/// The shipped static library.
+pub const ARCHIVE: Calls = Calls {
+    name: "archive",
+    start: archive::node_start,
+    deliver: archive::node_deliver,
+    query: archive::node_query,
+    checkpoint: archive::node_checkpoint,
+};
+
+impl Calls {
+    /// Makes the call that takes these records; a start takes no image.
+    pub fn make(&self, image: &[u8], records: &Records, out: &mut [u8]) -> u32 {
+        match records {
+            Records::Start(checkpoint, start) => (self.start)(checkpoint, start, out),
+            Records::Deliver(announcement, sheet) => {
+                (self.deliver)(image, announcement, sheet, out)
+            }
+            Records::Query(query) => (self.query)(image, query, out),
+            Records::Checkpoint => (self.checkpoint)(image, out),
+        }
+    }
+}

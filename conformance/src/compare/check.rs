@@ -1,0 +1,8 @@
+//! Calls, histories and streams run through the shipped code and through the second implementation.
+
+pub mod claims;
+pub mod hosts;
+pub mod one_call;
+pub mod program;
+pub mod rerun;
+pub mod second;

@@ -1,0 +1,244 @@
+//! The fields of checkpoints and images, to look at the state that a call will meet. Nothing here
+//! checks what it reads or writes: malformed checkpoints are made with it too.
+
+use crate::layout::{
+    self, CHECKPOINT, CHECKPOINT_KIND, CHECKPOINT_SIZE, IMAGE_SIZE, LOGIN, LOGINS,
+};
+use crate::layout::{MISSES_AT, OWN, PROPOSAL, PROPOSALS, ROW, ROWS, ROW_SIZE, SEATS, SEAT_ROW};
+use crate::layout::{SUBJECT_SIZE, VOTE, VOTED_AT};
+
+pub const FREE: u8 = 0;
+pub const CERTIFIED: u8 = 1;
+pub const PRESENT: u8 = 2;
+pub const RETIRED: u8 = 3;
+
+#[derive(Clone, Copy, PartialEq, Debug)]
+pub struct Seat {
+    pub standing: u8,
+    pub life: u32,
+}
+
+impl Seat {
+    pub const FREE: Seat = Seat {
+        standing: FREE,
+        life: 0,
+    };
+}
+
+#[derive(Clone, Copy, PartialEq, Debug)]
+pub struct Proposal {
+    pub cycle: u32,
+    pub day: u32,
+    pub kind: u16,
+    pub arguments: [u8; SUBJECT_SIZE],
+}
+
+#[derive(Clone, Copy, PartialEq, Debug)]
+pub struct Login {
+    pub login: u32,
+    pub end: u32,
+    pub rights: u16,
+}
+
+/// A checkpoint's fields; the tables hold used rows only.
+#[derive(Clone, PartialEq, Debug)]
+pub struct StateFields {
+    pub cycle: u32,
+    pub day: u32,
+    pub levels: [u8; 2],
+    pub margin: u8,
+    pub least: u8,
+    pub silence: u16,
+    pub seats: [Seat; SEATS.most],
+    pub proposals: Vec<Proposal>,
+    pub logins: Vec<Login>,
+}
+
+impl StateFields {
+    /// The state of the printed run: three present seats of life 1, k = 2, S = 30, day 100.
+    pub fn printed_run() -> StateFields {
+        let present = Seat {
+            standing: PRESENT,
+            life: 1,
+        };
+        let mut seats = [Seat::FREE; SEATS.most];
+        seats[..3].fill(present);
+        StateFields {
+            cycle: 1,
+            day: 100,
+            levels: [1, 1],
+            margin: 0,
+            least: 2,
+            silence: 30,
+            seats,
+            proposals: Vec::new(),
+            logins: Vec::new(),
+        }
+    }
+
+    /// Reads a checkpoint or the checkpoint at the front of an image. None where it is too short.
+    pub fn read(bytes: &[u8]) -> Option<StateFields> {
+        if bytes.len() < CHECKPOINT_SIZE {
+            return None;
+        }
+        let [cycle, day, level_1, level_2, margin, least, silence] =
+            layout::read(&CHECKPOINT, bytes, layout::BODY);
+        let used = |table: &layout::Table| {
+            let rows = bytes[table.at..table.end()].chunks(table.size);
+            rows.take(bytes[table.count_at()].into())
+        };
+        Some(StateFields {
+            cycle,
+            day,
+            levels: [level_1 as u8, level_2 as u8],
+            margin: margin as u8,
+            least: least as u8,
+            silence: silence as u16,
+            seats: std::array::from_fn(|i| Seat::read(&bytes[SEATS.row(i)..])),
+            proposals: used(&PROPOSALS).map(Proposal::read).collect(),
+            logins: used(&LOGINS).map(Login::read).collect(),
+        })
+    }
+
+    /// The checkpoint's bytes; rows that a table has no room for are left out.
+    pub fn write(&self) -> Vec<u8> {
+        let mut bytes = layout::record(CHECKPOINT_KIND, &[0; CHECKPOINT_SIZE - layout::BODY]);
+        let head = [
+            self.cycle,
+            self.day,
+            self.levels[0].into(),
+            self.levels[1].into(),
+            self.margin.into(),
+            self.least.into(),
+            self.silence.into(),
+        ];
+        layout::put(&CHECKPOINT, &head, &mut bytes, layout::BODY);
+        let seats = bytes[SEATS.at..].chunks_mut(SEATS.size).zip(&self.seats);
+        seats.for_each(|(row, seat)| seat.write(row));
+        bytes[PROPOSALS.count_at()] = self.proposals.len() as u8;
+        let rows = bytes[PROPOSALS.at..PROPOSALS.end()].chunks_mut(PROPOSALS.size);
+        rows.zip(&self.proposals)
+            .for_each(|(row, used)| used.write(row));
+        bytes[LOGINS.count_at()] = self.logins.len() as u8;
+        let rows = bytes[LOGINS.at..LOGINS.end()].chunks_mut(LOGINS.size);
+        rows.zip(&self.logins)
+            .for_each(|(row, used)| used.write(row));
+        bytes
+    }
+
+    pub fn seats_of(&self, standings: &[u8]) -> Vec<u8> {
+        (0..SEATS.most as u8)
+            .filter(|&i| standings.contains(&self.seats[usize::from(i)].standing))
+            .collect()
+    }
+
+    pub fn present(&self) -> usize {
+        let present = |seat: &&Seat| seat.standing == PRESENT;
+        self.seats.iter().filter(present).count()
+    }
+
+    pub fn quorum(&self) -> usize {
+        (self.present() / 2 + 1 + usize::from(self.margin)).max(usize::from(self.least))
+    }
+
+    /// The seats that count on a well-formed sheet, as bits.
+    pub fn counted(&self, sheet: &[u8]) -> u32 {
+        let rows = sheet.get(ROWS..).unwrap_or(&[]);
+        let mut seats = 0;
+        for row in rows.chunks_exact(ROW_SIZE) {
+            let [seat, life] = layout::read(&ROW, row, 0);
+            let seat = seat as usize % SEATS.most;
+            let listed = self.seats[seat];
+            if listed.standing == PRESENT && listed.life == life {
+                seats |= 1 << seat;
+            }
+        }
+        seats
+    }
+}
+
+/// Writes over the bytes at a place.
+pub fn put(bytes: &mut [u8], at: usize, new: &[u8]) {
+    bytes[at..at + new.len()].copy_from_slice(new);
+}
+
+impl Seat {
+    fn read(row: &[u8]) -> Seat {
+        let [standing, life] = layout::read(&SEAT_ROW, row, 0);
+        let standing = standing as u8;
+        Seat { standing, life }
+    }
+
+    fn write(&self, row: &mut [u8]) {
+        layout::put(&SEAT_ROW, &[self.standing.into(), self.life], row, 0);
+    }
+}
+
+impl Proposal {
+    fn read(row: &[u8]) -> Proposal {
+        let [cycle, day, kind] = layout::read(&PROPOSAL, row, 0);
+        let arguments = layout::size(&PROPOSAL);
+        Proposal {
+            cycle,
+            day,
+            kind: kind as u16,
+            arguments: std::array::from_fn(|i| row[arguments + i]),
+        }
+    }
+
+    fn write(&self, row: &mut [u8]) {
+        layout::put(&PROPOSAL, &[self.cycle, self.day, self.kind.into()], row, 0);
+        put(row, layout::size(&PROPOSAL), &self.arguments);
+    }
+}
+
+impl Login {
+    fn read(row: &[u8]) -> Login {
+        let [login, end, rights] = layout::read(&LOGIN, row, 0);
+        let rights = rights as u16;
+        Login { login, end, rights }
+    }
+
+    fn write(&self, row: &mut [u8]) {
+        let values = [self.login, self.end, self.rights.into()];
+        layout::put(&LOGIN, &values, row, 0);
+    }
+}
+
+/// A node's own part: what an image holds behind its checkpoint.
+#[derive(Clone, PartialEq, Debug)]
+pub struct OwnFields {
+    pub seat: u8,
+    pub life: u32,
+    pub vote: Option<Vec<u8>>,
+    pub misses: u8,
+}
+
+impl OwnFields {
+    /// Reads the own part of an image. None where it is too short.
+    pub fn read(image: &[u8]) -> Option<OwnFields> {
+        if image.len() < IMAGE_SIZE {
+            return None;
+        }
+        let [seat, life] = layout::read(&OWN, image, CHECKPOINT_SIZE);
+        Some(OwnFields {
+            seat: seat as u8,
+            life,
+            vote: (image[VOTED_AT] == 1).then(|| image[VOTE].to_vec()),
+            misses: image[MISSES_AT],
+        })
+    }
+
+    /// The image of a state with this own part.
+    pub fn image(&self, state: &StateFields) -> Vec<u8> {
+        let mut bytes = state.write();
+        bytes.extend(layout::write(&OWN, &[self.seat.into(), self.life]));
+        bytes.push(u8::from(self.vote.is_some()));
+        match &self.vote {
+            Some(vote) => bytes.extend(vote),
+            None => bytes.resize(MISSES_AT, 0),
+        }
+        bytes.push(self.misses);
+        bytes
+    }
+}

@@ -1,0 +1,17 @@
+//! Random input: histories aimed at the rules, records one step beside them, and damage.
+
+pub mod announcements;
+pub mod arguments;
+mod ended_logins;
+mod habits;
+pub mod histories;
+pub mod lone_requests;
+pub mod malformed;
+pub mod random;
+pub mod records;
+pub mod sheets;
+pub mod starts_queries;
+pub mod states;
+pub mod streams;
+pub mod sweeps;
+mod values;

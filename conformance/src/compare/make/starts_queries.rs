@@ -1,0 +1,80 @@
+//! Starts and queries aimed at a state, and lengths of output slices.
+
+use super::arguments;
+use super::random::Random;
+use super::records;
+use crate::compare::fields::{StateFields, CERTIFIED, PRESENT};
+
+pub fn start(rng: &mut Random, state: &StateFields) -> Vec<u8> {
+    let fit = state.seats_of(&[CERTIFIED, PRESENT, PRESENT]);
+    let seat = if fit.is_empty() || rng.chance(12) {
+        rng.below(32) as u8
+    } else {
+        rng.pick(&fit)
+    };
+    let listed = state.seats[usize::from(seat)].life;
+    let life = match rng.below(12) {
+        0 => rng.any32(),
+        1 => rng.near(listed),
+        2 => listed.saturating_add(1),
+        3 => listed.saturating_sub(1),
+        4 => rng.pick(&[0, u32::MAX]),
+        _ => listed,
+    };
+    records::start(seat, life)
+}
+
+/// A query that opens more often than not, or one beside a rule.
+pub fn query(rng: &mut Random, state: &StateFields) -> Vec<u8> {
+    let login = arguments::listed_login(rng, state);
+    let row = state.logins.iter().find(|row| row.login == login);
+    let end = row.map_or(state.day, |row| row.end);
+    let rights = row.map_or(0, |row| row.rights);
+    let limit = state.day.saturating_add(u32::from(state.silence));
+    let day = match rng.below(16) {
+        0 => rng.near(limit),
+        1 => rng.near(end),
+        2 => limit,
+        3 => limit.saturating_add(1),
+        4 => end,
+        5 => end.saturating_add(1),
+        6 => rng.any32(),
+        7 => state.day.saturating_sub(rng.within(1, 400)),
+        8 => limit.min(end),
+        9 => rng.pick(&[0, u32::MAX]),
+        _ => state.day.saturating_add(rng.within(0, 3)),
+    };
+    let held: Vec<u8> = (0..16).filter(|&right| rights >> right & 1 == 1).collect();
+    let right = if held.is_empty() || rng.chance(20) {
+        rng.below(16) as u8
+    } else {
+        rng.pick(&held)
+    };
+    records::query(login, day, right)
+}
+
+/// A query that adds a miss where the misses are not 10: no such login, on the agreed day.
+pub fn bad_query(rng: &mut Random, state: &StateFields) -> Vec<u8> {
+    let mut login = rng.pick(&[0, 0x0F00_0000]);
+    while state.logins.iter().any(|row| row.login == login) {
+        login = rng.any32();
+    }
+    records::query(login, state.day, rng.below(16) as u8)
+}
+
+/// The length of an output slice for `size` bytes: exact, longer and, with this chance in percent,
+/// shorter.
+pub fn out_length(rng: &mut Random, size: usize, short: u32) -> usize {
+    if rng.chance(short) {
+        return match rng.below(3) {
+            0 => size - 1,
+            1 => rng.below(8),
+            _ => rng.below(size),
+        };
+    }
+    match rng.below(3) {
+        0 => size,
+        1 => size + 1,
+        _ => size + rng.below(40),
+    }
+}

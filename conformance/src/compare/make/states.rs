@@ -1,0 +1,165 @@
+//! Random well-formed checkpoints and images: small to full, all ranges and their ends.
+
+use super::announcements;
+use super::arguments;
+use super::random::Random;
+use super::values;
+use crate::compare::fields::{
+    Login, OwnFields, Proposal, Seat, StateFields, CERTIFIED, FREE, PRESENT, RETIRED,
+};
+use std::collections::BTreeSet;
+
+pub fn any_view(rng: &mut Random) -> StateFields {
+    let mut state = StateFields::printed_run();
+    set_seats(rng, &mut state);
+    set_minima(rng, &mut state);
+    state.levels = [values::any_level(rng), values::any_level(rng)];
+    state.day = values::any_day(rng);
+    state.cycle = values::any_cycle(rng);
+    set_proposals(rng, &mut state);
+    set_logins(rng, &mut state);
+    state
+}
+
+fn set_seats(rng: &mut Random, state: &mut StateFields) {
+    let present = match rng.below(8) {
+        0 => rng.pick(&[1, 1, 2]),
+        1 | 2 => rng.within(3, 5),
+        3 => 32,
+        4 => rng.within(13, 17),
+        5 => rng.within(2, 8),
+        _ => rng.within(1, 32),
+    } as usize;
+    let others: &[u8] = if rng.chance(30) {
+        &[FREE]
+    } else {
+        &[FREE, FREE, CERTIFIED, CERTIFIED, RETIRED]
+    };
+    let mut order: Vec<usize> = (0..32).collect();
+    rng.shuffle(&mut order);
+    for (place, &seat) in order.iter().enumerate() {
+        let standing = if place < present {
+            PRESENT
+        } else {
+            rng.pick(others)
+        };
+        let life = if standing == FREE {
+            0
+        } else {
+            values::any_life(rng)
+        };
+        state.seats[seat] = Seat { standing, life };
+    }
+}
+
+fn set_minima(rng: &mut Random, state: &mut StateFields) {
+    let present = state.present();
+    let most = values::most_margin(present);
+    state.margin = match rng.below(4) {
+        0 | 1 => 0,
+        2 => most,
+        _ => rng.within(0, most),
+    } as u8;
+    state.least = match rng.below(4) {
+        0 | 1 => 1,
+        2 => present as u32,
+        _ => rng.within(1, present as u32),
+    } as u8;
+    state.silence = values::any_silence(rng);
+}
+
+/// Proposals around the notice of 7 days, many with the same subject, since then the lowest cycle
+/// decides.
+fn set_proposals(rng: &mut Random, state: &mut StateFields) {
+    let most = state.cycle.min(16);
+    let count = match rng.below(6) {
+        0 => 0,
+        1 => most,
+        2 => most.min(15),
+        _ => rng.within(0, most),
+    } as usize;
+    let mut cycles = BTreeSet::new();
+    while cycles.len() < count {
+        cycles.insert(match rng.below(5) {
+            0 => rng.within(0, most - 1),
+            1 => state.cycle - rng.pick(&[1, 1, most]),
+            2 => state.cycle - rng.within(1, most),
+            _ => rng.within(0, state.cycle - 1),
+        });
+    }
+    state.proposals.clear();
+    for cycle in cycles {
+        let row = proposal(rng, state, cycle);
+        state.proposals.push(row);
+    }
+}
+
+fn proposal(rng: &mut Random, state: &StateFields, cycle: u32) -> Proposal {
+    let (kind, arguments) = match state.proposals.len() {
+        used if used > 0 && rng.chance(45) => {
+            let earlier = state.proposals[rng.below(used)];
+            (earlier.kind, earlier.arguments)
+        }
+        _ => arguments::any(rng, state),
+    };
+    let day = match rng.below(5) {
+        0 => state.day,
+        1 => rng.within(0, state.day),
+        _ => state.day.saturating_sub(rng.within(4, 9)),
+    };
+    Proposal {
+        cycle,
+        day,
+        kind,
+        arguments,
+    }
+}
+
+fn set_logins(rng: &mut Random, state: &mut StateFields) {
+    let count = match rng.below(6) {
+        0 => 0,
+        1 => 64,
+        2 => rng.within(61, 64),
+        _ => rng.within(0, 64),
+    } as usize;
+    let mut names = BTreeSet::new();
+    while names.len() < count {
+        names.insert(values::any_login(rng));
+    }
+    state.logins.clear();
+    for login in names {
+        let end = values::end_day(rng, state, state.day);
+        let rights = values::any_rights(rng);
+        state.logins.push(Login { login, end, rights });
+    }
+}
+
+/// An own part for the image of `state`: any seat that is not free, votes and misses too.
+pub fn any_own(rng: &mut Random, state: &StateFields) -> OwnFields {
+    let standings: &[u8] = if rng.chance(80) {
+        &[PRESENT]
+    } else {
+        &[CERTIFIED, PRESENT, RETIRED]
+    };
+    let seat = rng.pick(&state.seats_of(standings));
+    let listed = state.seats[usize::from(seat)].life;
+    let life = match rng.below(8) {
+        0 => rng.near(listed).max(1),
+        1 => rng.some32(),
+        _ => listed.max(1),
+    };
+    let vote = rng
+        .chance(35)
+        .then(|| announcements::well_formed(rng, state));
+    let misses = match rng.below(4) {
+        0 => rng.pick(&[9, 10]),
+        1 => rng.within(0, 10) as u8,
+        _ => 0,
+    };
+    OwnFields {
+        seat,
+        life,
+        vote,
+        misses,
+    }
+}

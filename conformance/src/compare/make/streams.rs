@@ -1,0 +1,79 @@
+//! Input streams for node-run, made from histories and damaged.
+
+use super::malformed;
+use super::random::Random;
+use crate::compare::call::History;
+use crate::layout::{kind_of, least_size};
+
+/// The most records of a stream: what follows damage is seldom read.
+const LONGEST: usize = 60;
+
+/// A stream of a history's records: those of one host or of all, mostly with damage.
+pub fn of_history(rng: &mut Random, history: &History) -> Vec<u8> {
+    let host = rng.below(history.by_value.len());
+    let all = rng.chance(30);
+    let calls = history.calls.iter().filter(|call| all || call.host == host);
+    let records = calls.flat_map(|call| call.records.in_order());
+    let mut records: Vec<Vec<u8>> = records.cloned().collect();
+    records.truncate(rng.within(2, LONGEST as u32) as usize);
+    // Damage at the end of a stream is only read where the records before it are whole.
+    let (record_damage, stream_damage) = rng.pick(&[
+        (0, 0),
+        (0, 100),
+        (0, 100),
+        (1, 0),
+        (1, 0),
+        (1, 0),
+        (2, 20),
+        (4, 20),
+    ]);
+    for _ in 0..record_damage {
+        damage_record(rng, &mut records);
+    }
+    let mut stream = records.concat();
+    if rng.chance(stream_damage) {
+        damage_stream(rng, &mut stream);
+    }
+    stream
+}
+
+/// Damage to one record in its place: framing stays whole unless the length itself is changed.
+fn damage_record(rng: &mut Random, records: &mut Vec<Vec<u8>>) {
+    if records.is_empty() {
+        return;
+    }
+    let place = rng.below(records.len());
+    let length = records[place].len();
+    match rng.below(13) {
+        0..=2 => malformed::reframe(&mut records[place], length.saturating_sub(1 + rng.below(2))),
+        3 => malformed::reframe(&mut records[place], rng.below(length + 1)),
+        11 if length > 2 => {
+            let least = least_size(kind_of(&records[place]));
+            malformed::reframe(&mut records[place], least - rng.below(2));
+        }
+        4 => malformed::reframe(&mut records[place], length + 1 + rng.below(6)),
+        5 if length > 3 => records[place][3] = rng.pick(&[1, 255]),
+        6 if length > 3 => records[place][2] = rng.below(22) as u8,
+        7 => {
+            records.remove(place);
+        }
+        8 => records.insert(place, records[place].clone()),
+        9 => {
+            let next = (place + 1) % records.len();
+            records.swap(place, next);
+        }
+        10 if length > 0 => records[place][0] = rng.byte(),
+        _ if length > 4 => records[place][4 + rng.below(length - 4)] = rng.pick(&[0, 1, 32, 255]),
+        _ => {}
+    }
+}
+
+/// Damage to the stream as a whole: a cut, stray bytes at the end, random bytes within.
+fn damage_stream(rng: &mut Random, stream: &mut Vec<u8>) {
+    let place = rng.below(stream.len() + 1);
+    match rng.below(3) {
+        0 => stream.truncate(place),
+        1 => (0..rng.pick(&[1, 1, 2, 3, 4])).for_each(|_| stream.push(rng.pick(&[0, 1, 22]))),
+        _ => stream.insert(place, rng.byte()),
+    }
+}

@@ -1,0 +1,85 @@
+//! Random values of the fields, with the ends of their ranges and what makes records meet each
+//! other.
+
+use super::random::Random;
+use crate::compare::fields::StateFields;
+
+pub fn any_life(rng: &mut Random) -> u32 {
+    match rng.below(8) {
+        0..=3 => 1,
+        4 | 5 => rng.within(1, 5),
+        6 => rng.pick(&[u32::MAX, u32::MAX - 1]),
+        _ => rng.some32(),
+    }
+}
+
+/// The highest margin of a quorum that `present` seats can reach.
+pub fn most_margin(present: usize) -> u32 {
+    ((present.max(1) - 1) / 2).min(7) as u32
+}
+
+pub fn any_silence(rng: &mut Random) -> u16 {
+    match rng.below(3) {
+        0 => rng.pick(&[1, 365]),
+        1 => rng.pick(&[2, 7, 30, 364]),
+        _ => rng.within(1, 365) as u16,
+    }
+}
+
+pub fn any_level(rng: &mut Random) -> u8 {
+    match rng.below(3) {
+        0 => rng.pick(&[1, 8]),
+        1 => rng.pick(&[2, 3]),
+        _ => rng.within(1, 8) as u8,
+    }
+}
+
+pub fn any_day(rng: &mut Random) -> u32 {
+    match rng.below(10) {
+        0 => rng.pick(&[0, 1, 7]),
+        1 => rng.pick(&[u32::MAX, u32::MAX - 1, u32::MAX - 7, u32::MAX - 40]),
+        2 => rng.number() as u32,
+        3..=5 => rng.within(0, 400),
+        _ => rng.within(19_000, 21_000),
+    }
+}
+
+pub fn any_cycle(rng: &mut Random) -> u32 {
+    match rng.below(12) {
+        0..=2 => 1,
+        3 => rng.within(2, 16),
+        4..=7 => rng.within(16, 100),
+        8 | 9 => rng.within(1, 100_000),
+        10 => u32::MAX - rng.pick(&[0, 0, 1, 1, 2, 5, 50]),
+        _ => rng.some32(),
+    }
+}
+
+/// Few names, so that grants, ends and queries meet each other.
+pub fn any_login(rng: &mut Random) -> u32 {
+    match rng.below(10) {
+        0 => rng.pick(&[1, u32::MAX]),
+        1 => rng.some32(),
+        _ => rng.within(1, 80),
+    }
+}
+
+pub fn any_rights(rng: &mut Random) -> u16 {
+    match rng.below(4) {
+        0 => rng.pick(&[1, 0x8000, 0xFFFF]),
+        1 => 1 << rng.below(16),
+        _ => rng.within(1, 0xFFFF) as u16,
+    }
+}
+
+/// End days around a day and around the silence limit after it.
+pub fn end_day(rng: &mut Random, state: &StateFields, day: u32) -> u32 {
+    match rng.below(8) {
+        0 => rng.pick(&[0, u32::MAX]),
+        1 => rng.near(day),
+        2 => rng.near(day.saturating_add(u32::from(state.silence))),
+        3 => day,
+        4 => rng.any32(),
+        _ => day.saturating_add(rng.within(0, 60)),
+    }
+}

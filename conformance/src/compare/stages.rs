@@ -1,0 +1,266 @@
+//! The stages of a comparison: requests that stand alone, damaged input, histories with streams.
+
+use super::call::{Event, History, Request};
+use super::check::claims::{Claims, Tally};
+use super::check::hosts::Hosts;
+use super::check::second::Second;
+use super::check::{one_call, program, rerun};
+use super::make::histories::HistoryMaker;
+use super::make::random::Random;
+use super::make::{lone_requests, streams, sweeps};
+use super::tell::coverage::Coverage;
+use super::tell::kept_case::Case;
+use std::path::{Path, PathBuf};
+use std::time::{Duration, Instant};
+
+/// A difference and what it was found on.
+pub struct Found {
+    pub case: Case,
+    pub what: String,
+}
+
+/// No line of progress is printed before so long after the last one.
+const PAUSE: Duration = Duration::from_secs(4);
+
+pub struct Stages {
+    second: &'static Second,
+    /// The program for streams; without it none are compared.
+    node_run: Option<PathBuf>,
+    /// When the last line of progress was printed; none: no progress is told.
+    told: Option<Instant>,
+    pub coverage: Coverage,
+    pub histories: u64,
+    /// Histories with lawful starts and within the bound on double voters, whose claims were
+    /// checked.
+    pub within: u64,
+    /// Histories beyond the bound in which two nodes at one cycle differ.
+    pub split: u64,
+    /// Sums of the tallies of the same name.
+    pub shared: u64,
+    pub tight: u64,
+    pub regranted: u64,
+    pub at_limit: u64,
+    pub streams: u64,
+}
+
+impl Stages {
+    pub fn new(second: &'static Second, node_run: Option<PathBuf>) -> Stages {
+        Stages {
+            second,
+            node_run,
+            told: None,
+            coverage: Coverage::new(),
+            histories: 0,
+            within: 0,
+            split: 0,
+            shared: 0,
+            tight: 0,
+            regranted: 0,
+            at_limit: 0,
+            streams: 0,
+        }
+    }
+
+    /// Tells how far it is, every few seconds.
+    pub fn with_progress(self) -> Stages {
+        Stages {
+            told: Some(Instant::now()),
+            ..self
+        }
+    }
+
+    fn tell(&mut self) {
+        if self.told.is_some_and(|told| told.elapsed() >= PAUSE) {
+            self.told = Some(Instant::now());
+            println!(
+                "{} calls, {} histories, {} within the bound",
+                self.coverage.calls, self.histories, self.within
+            );
+        }
+    }
+
+    fn request(&mut self, request: &Request) -> Result<(), String> {
+        let outcome = one_call::compare_all(self.second, request)?;
+        self.coverage.note(request, &outcome);
+        self.tell();
+        Ok(())
+    }
+
+    /// Requests that stand alone, until so many calls were made in all.
+    pub fn lone_requests(&mut self, rng: &mut Random, until: u64) -> Result<(), Found> {
+        let mut requests = lone_requests::ends();
+        while self.coverage.calls < until {
+            for request in requests {
+                self.request(&request).map_err(|what| Found {
+                    case: Case::Single(request),
+                    what,
+                })?;
+            }
+            requests = lone_requests::requests(rng);
+        }
+        Ok(())
+    }
+
+    /// Damaged input, whole sweeps until so many calls were made in all.
+    pub fn damaged(&mut self, rng: &mut Random, until: u64) -> Result<(), Found> {
+        while self.coverage.calls < until {
+            let mut bases = sweeps::bases(rng);
+            rng.shuffle(&mut bases);
+            for base in &bases {
+                if self.coverage.calls < until {
+                    self.sweep(rng, base)?;
+                }
+            }
+        }
+        Ok(())
+    }
+
+    fn sweep(&mut self, rng: &mut Random, base: &Request) -> Result<(), Found> {
+        let mut last = base.clone();
+        let mut each = |request: &Request| {
+            let made = self.request(request);
+            if made.is_err() {
+                last = request.clone();
+            }
+            made
+        };
+        let swept =
+            sweeps::sweep(rng, base, &mut each).and_then(|()| sweeps::row_counts(base, &mut each));
+        swept.map_err(|what| Found {
+            case: Case::Single(last),
+            what,
+        })
+    }
+
+    /// Random histories until so many calls were made in all.
+    pub fn histories(&mut self, rng: &mut Random, until: u64) -> Result<(), Found> {
+        while self.coverage.calls < until {
+            let seed = rng.number();
+            let (history, tally) = run_random(self.second, seed, &mut self.coverage)?;
+            self.add(&tally);
+            if let Some(program) = self.node_run.clone() {
+                let input = streams::of_history(rng, &history);
+                self.streams += 1;
+                let same = program::compare(self.second, &program, &input);
+                same.map_err(|what| Found {
+                    case: Case::Stream(input),
+                    what,
+                })?;
+            }
+        }
+        Ok(())
+    }
+
+    fn add(&mut self, tally: &Tally) {
+        self.histories += 1;
+        self.within += u64::from(tally.within);
+        self.split += u64::from(tally.split);
+        self.tight += tally.tight;
+        if tally.within {
+            self.shared += tally.shared;
+            self.regranted += tally.regranted;
+            self.at_limit += tally.at_limit;
+        }
+        self.tell();
+    }
+
+    /// What was never met, one line each.
+    pub fn missing(&self) -> Vec<String> {
+        let mut lines = self.coverage.missing();
+        let regranted = "login open beyond the limit since it was granted again, within the bound";
+        let at_limit = "ended login open on the last day of the limit, within the bound";
+        let split = "history beyond the bound with two states at one cycle";
+        let counts = [
+            (self.within, "history within the bound"),
+            (self.split, split),
+            (self.shared, "two nodes at one cycle, within the bound"),
+            (self.tight, "exactly 2m+1 double voters"),
+            (self.regranted, regranted),
+            (self.at_limit, at_limit),
+        ];
+        let never = counts.iter().filter(|(count, _)| *count == 0);
+        lines.extend(never.map(|(_, what)| what.to_string()));
+        lines
+    }
+
+    /// What was met, one line each.
+    pub fn summary(&self) -> Vec<String> {
+        let mut lines = vec![
+            format!(
+                "{} histories, {} within the bound, {} streams",
+                self.histories, self.within, self.streams
+            ),
+            format!(
+                "within the bound: {} nodes at a cycle that another had reached",
+                self.shared
+            ),
+            format!(
+                "ended logins: {} open since granted again, {} open on the last day of the limit",
+                self.regranted, self.at_limit
+            ),
+            format!(
+                "beyond the bound: {} histories split, {} pairs with exactly 2m+1 double voters",
+                self.split, self.tight
+            ),
+        ];
+        lines.extend(self.coverage.summary());
+        lines
+    }
+}
+
+/// A random history that shows no difference.
+pub fn random_history(second: &'static Second, seed: u64) -> Result<History, Found> {
+    let (history, _) = run_random(second, seed, &mut Coverage::new())?;
+    Ok(history)
+}
+
+/// Makes and runs a random history. Hands it back with what it showed.
+fn run_random(
+    second: &'static Second,
+    seed: u64,
+    coverage: &mut Coverage,
+) -> Result<(History, Tally), Found> {
+    let (mut maker, mut history) = HistoryMaker::new(Random::new(seed));
+    let mut hosts = Hosts::new(second, &history.by_value);
+    let mut claims = Claims::new(&history.first);
+    for _ in 0..maker.length() {
+        let call = maker.call(&hosts);
+        let made = hosts.step(&call);
+        history.calls.push(call);
+        let mut take_up = |event: Option<Event>| {
+            let Some(event) = event else { return Ok(()) };
+            coverage.note(&event.request, &event.outcome);
+            maker.learn(&event);
+            claims.note(&event)
+        };
+        if let Err(what) = made.and_then(&mut take_up) {
+            let case = Case::History(history);
+            return Err(Found { case, what });
+        }
+    }
+    match claims.verdict() {
+        Ok(tally) => Ok((history, tally)),
+        Err(what) => Err(Found {
+            case: Case::History(history),
+            what,
+        }),
+    }
+}
+
+impl Found {
+    /// The same difference on the shortest case that can be found.
+    pub fn shorten(self, second: &'static Second, node_run: Option<&Path>) -> Found {
+        match (self.case, node_run) {
+            (Case::History(history), _) => {
+                let (history, what) = rerun::shorten(second, history, self.what);
+                let case = Case::History(history);
+                Found { case, what }
+            }
+            (Case::Stream(input), Some(program)) => {
+                let case = Case::Stream(program::shorten(second, program, &input));
+                Found { case, ..self }
+            }
+            (case, _) => Found { case, ..self },
+        }
+    }
+}

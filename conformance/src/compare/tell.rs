@@ -1,0 +1,7 @@
+//! What was met and what was found, in lines that a person reads.
+
+pub mod coverage;
+pub mod kept_case;
+mod ranges;
+pub mod replay;
+mod summary;

@@ -1,0 +1,157 @@
+//! What the calls met: answers by call, actions, both ends of every range.
+
+use super::ranges::{Range, ANNOUNCED, HEAD, PERFORMED, RANGES};
+use crate::compare::call::{Outcome, Records, Request, VOTED};
+use crate::compare::fields::{OwnFields, Seat, StateFields};
+use crate::layout::{self, kind_of, BODY, CHECKPOINT, CYCLE_AND_DAY, MASKS, QUERY, ROW, ROWS};
+use crate::layout::{ROW_SIZE, START};
+
+pub struct Coverage {
+    pub calls: u64,
+    /// By call and answer, 0 to 22 and 128.
+    pub answers: [[u64; 129]; 4],
+    pub performed: [u64; 10],
+    pub voted: [u64; 10],
+    /// By call: output slices one byte short, exact, longer.
+    pub slices: [[u64; 3]; 4],
+    pub low: Vec<u64>,
+    pub high: Vec<u64>,
+}
+
+impl Coverage {
+    pub fn new() -> Coverage {
+        let none = vec![0; RANGES.len()];
+        Coverage {
+            calls: 0,
+            answers: [[0; 129]; 4],
+            performed: [0; 10],
+            voted: [0; 10],
+            slices: [[0; 3]; 4],
+            low: none.clone(),
+            high: none,
+        }
+    }
+
+    pub fn note(&mut self, request: &Request, outcome: &Outcome) {
+        let call = request.records.index();
+        self.calls += 1;
+        self.answers[call][outcome.number.min(128) as usize] += 1;
+        let size = request.records.size();
+        match request.out {
+            out if out + 1 == size => self.slices[call][0] += 1,
+            out if out == size => self.slices[call][1] += 1,
+            out if out > size => self.slices[call][2] += 1,
+            _ => {}
+        }
+        // Answer 1 leaves open which record is malformed, so nothing of them counts.
+        if outcome.number != 1 {
+            self.note_records(request, outcome);
+        }
+    }
+
+    fn note_records(&mut self, request: &Request, outcome: &Outcome) {
+        match &request.records {
+            Records::Start(checkpoint, start) => {
+                self.note_state(checkpoint);
+                let values = layout::values(&START, start, BODY);
+                self.meet_all(&[Range::StartSeat, Range::StartLife], &values);
+                return;
+            }
+            Records::Deliver(announcement, sheet) => {
+                self.note_announcement(announcement, outcome.number);
+                if outcome.number != 2 {
+                    self.note_sheet(sheet);
+                }
+            }
+            Records::Query(query) => {
+                let values = layout::values(&QUERY, query, BODY);
+                let ranges = [Range::AskedLogin, Range::AskedDay, Range::AskedRight];
+                self.meet_all(&ranges, &values);
+            }
+            Records::Checkpoint => {}
+        }
+        self.note_state(&request.image);
+        self.note_own(&request.image);
+    }
+
+    fn meet(&mut self, range: Range, value: impl Into<u32>) {
+        let value = value.into();
+        let (_, (low, high)) = RANGES[range as usize];
+        self.low[range as usize] += u64::from(value == low);
+        self.high[range as usize] += u64::from(value == high);
+    }
+
+    fn meet_all(&mut self, ranges: &[Range], values: &[u32]) {
+        for (range, value) in ranges.iter().zip(values) {
+            self.meet(*range, *value);
+        }
+    }
+
+    fn note_state(&mut self, checkpoint: &[u8]) {
+        let Some(state) = StateFields::read(checkpoint) else {
+            return;
+        };
+        self.meet_all(&HEAD, &layout::values(&CHECKPOINT, checkpoint, BODY));
+        self.meet(Range::Present, state.present() as u32);
+        self.meet(Range::Proposals, state.proposals.len() as u32);
+        self.meet(Range::Logins, state.logins.len() as u32);
+        state.seats.iter().for_each(|seat| self.note_seat(seat));
+        state.proposals.iter().for_each(|row| {
+            let ranges = [Range::ProposalCycle, Range::ProposalDay];
+            self.meet_all(&ranges, &[row.cycle, row.day]);
+        });
+        state.logins.iter().for_each(|row| {
+            let ranges = [Range::Login, Range::EndDay, Range::Rights];
+            self.meet_all(&ranges, &[row.login, row.end, row.rights.into()]);
+        });
+    }
+
+    fn note_seat(&mut self, seat: &Seat) {
+        self.meet(Range::Standing, seat.standing);
+        if *seat != Seat::FREE {
+            self.meet(Range::Life, seat.life);
+        }
+    }
+
+    fn note_own(&mut self, image: &[u8]) {
+        let Some(own) = OwnFields::read(image) else {
+            return;
+        };
+        self.meet(Range::OwnSeat, own.seat);
+        self.meet(Range::OwnLife, own.life);
+        self.meet(Range::Voted, u32::from(own.vote.is_some()));
+        self.meet(Range::Misses, own.misses);
+    }
+
+    fn note_sheet(&mut self, sheet: &[u8]) {
+        let masks = layout::values(&MASKS, sheet, BODY);
+        self.meet_all(&[Range::Mask1, Range::Mask2], &masks);
+        self.meet(Range::Rows, sheet[layout::ROW_COUNT_AT]);
+        for row in sheet[ROWS..].chunks_exact(ROW_SIZE) {
+            let values = layout::values(&ROW, row, 0);
+            self.meet_all(&[Range::RowSeat, Range::RowLife], &values);
+        }
+    }
+
+    fn note_announcement(&mut self, bytes: &[u8], number: u32) {
+        let kind = usize::from(kind_of(bytes));
+        let [cycle, day] = layout::read(&CYCLE_AND_DAY, bytes, BODY);
+        let arguments = layout::arguments(bytes);
+        self.meet(Range::Kind, kind as u32);
+        self.meet_all(&[Range::AnnouncedCycle, Range::AnnouncedDay], &[cycle, day]);
+        self.meet_all(ANNOUNCED[kind], &arguments);
+        if number == VOTED {
+            self.voted[kind] += 1;
+        }
+        if number != 0 {
+            return;
+        }
+        self.performed[kind] += 1;
+        self.meet_all(&[Range::DoneCycle, Range::DoneDay], &[cycle, day]);
+        self.meet_all(PERFORMED[kind], &arguments);
+        if (kind, arguments[0]) == (1, 4) {
+            let seat = bytes[layout::ARGUMENTS + layout::SUBJECT_KIND.size];
+            self.meet(Range::DoneSubjectSeat, seat);
+        }
+    }
+}

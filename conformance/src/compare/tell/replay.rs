@@ -1,0 +1,102 @@
+//! A kept case run again and shown step by step, in the words of `records`.
+
+use super::kept_case::{words_of, Case};
+use crate::compare::call::{Event, History, Request};
+use crate::compare::check::second::Second;
+use crate::compare::check::{one_call, program, rerun};
+use crate::compare::fields::{OwnFields, StateFields};
+use crate::text::{show, show_image};
+use std::path::Path;
+
+/// Prints the case and how it ends; whether no difference shows.
+pub fn replay(second: &'static Second, case: &Case, node_run: Option<&Path>) -> bool {
+    let outcome = match case {
+        Case::History(history) => replay_history(second, history),
+        Case::Single(request) => replay_single(second, request),
+        Case::Stream(input) => replay_stream(second, input, node_run),
+    };
+    match &outcome {
+        Ok(()) => println!("no difference"),
+        Err(what) => println!("DIFFERENCE: {what}"),
+    }
+    outcome.is_ok()
+}
+
+fn replay_history(second: &'static Second, history: &History) -> Result<(), String> {
+    print!(
+        "The park's first checkpoint:\n{}",
+        show(&history.first).text
+    );
+    let title = |place: usize| {
+        let call = &history.calls[place];
+        let holds = match history.by_value[call.host] {
+            true => "a node by value",
+            false => "an image",
+        };
+        let (name, host, out) = (call.records.name(), call.host, call.out);
+        let head = format!("\nCall {}: {name} at host {host}", place + 1);
+        print!(
+            "{head}, which holds {holds}; output slice of {out} bytes\n{}",
+            words_of(&call.records)
+        );
+    };
+    let mut show_call = |place: usize, event: Option<&Event>| {
+        title(place);
+        match event {
+            Some(event) => println!("Answer {}{}", event.outcome.number, held(event)),
+            None => println!("Not made: the host holds no node"),
+        }
+    };
+    let tally = rerun::again(second, history, &mut show_call).map_err(|(place, what)| {
+        if place < history.calls.len() {
+            title(place);
+        }
+        what
+    })?;
+    let within = if tally.within { "" } else { "not " };
+    println!("\nThe starts are lawful and the bound on double voters is kept: {within}so");
+    Ok(())
+}
+
+/// What the node holds after a call, or the checkpoint that it gave.
+fn held(event: &Event) -> String {
+    let after = event.outcome.written.as_ref();
+    let image = after.unwrap_or(&event.request.image);
+    match (StateFields::read(image), OwnFields::read(image)) {
+        (Some(state), Some(own)) => {
+            let StateFields { cycle, day, .. } = state;
+            format!(", cycle {cycle}, day {day}, misses {}", own.misses)
+        }
+        (Some(state), None) => format!(", checkpoint of cycle {}", state.cycle),
+        _ => String::new(),
+    }
+}
+
+fn replay_single(second: &Second, request: &Request) -> Result<(), String> {
+    let (name, out) = (request.records.name(), request.out);
+    println!("One call, {name}, with an output slice of {out} bytes");
+    if !request.image.is_empty() {
+        print!("The image:\n{}", show_image(&request.image).text);
+    }
+    print!("The records:\n{}", words_of(&request.records));
+    let outcome = one_call::compare_all(second, request)?;
+    println!("Answer {}", outcome.number);
+    Ok(())
+}
+
+fn replay_stream(second: &Second, input: &[u8], node_run: Option<&Path>) -> Result<(), String> {
+    print!("The input of node-run:\n{}", show(input).text);
+    let expected = (second.node_run)(input);
+    print_lines("The second implementation prints:", &expected);
+    let program = node_run.ok_or("--node-run PATH is needed to run the program again")?;
+    let printed = program::printed(program, input)?;
+    print_lines("node-run prints:", &printed);
+    program::same(&printed, &expected)
+}
+
+fn print_lines(title: &str, printed: &[u8]) {
+    println!("{title}");
+    for line in program::lines(printed) {
+        println!("  {line}");
+    }
+}

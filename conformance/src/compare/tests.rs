@@ -1,0 +1,177 @@
+//! The checks that the comparison itself relies on.
+
+use super::call::{Event, Outcome, Records, Request};
+use super::check::claims::{Claims, Tally};
+use super::check::rerun;
+use super::fields::{OwnFields, StateFields};
+use super::make::records;
+use super::{random_history, Case, FAULTY, PAPER};
+use crate::faulty;
+use crate::layout::{read, BODY, CYCLE_AND_DAY, IMAGE_SIZE};
+
+const OWN: OwnFields = OwnFields {
+    seat: 0,
+    life: 1,
+    vote: None,
+    misses: 0,
+};
+
+fn event(state: &StateFields, records: Records, after: &StateFields) -> Event {
+    let image = OWN.image(state);
+    let outcome = Outcome {
+        number: 0,
+        written: Some(OWN.image(after)),
+    };
+    Event {
+        request: Request {
+            image,
+            records,
+            out: IMAGE_SIZE,
+        },
+        outcome,
+    }
+}
+
+fn performed(state: &StateFields, announcement: Vec<u8>, seats: &[(u8, u32)]) -> Event {
+    let mut after = state.clone();
+    after.cycle += 1;
+    [_, after.day] = read(&CYCLE_AND_DAY, &announcement, BODY);
+    event(
+        state,
+        Records::Deliver(announcement, records::sheet([1, 1], seats)),
+        &after,
+    )
+}
+
+fn claims_of(events: &[Event]) -> Result<Tally, String> {
+    let mut claims = Claims::new(&StateFields::printed_run().write());
+    for event in events {
+        claims.note(event)?;
+    }
+    claims.verdict()
+}
+
+/// An announcement about login 7 in the cycle of `state`.
+fn about(kind: u16, state: &StateFields, day: u32) -> Vec<u8> {
+    let arguments = if kind == 8 {
+        records::grant(7, 900, 1)
+    } else {
+        records::arguments(&[7])
+    };
+    records::announcement(kind, state.cycle, day, arguments)
+}
+
+#[test]
+fn cases_read_back() {
+    for seed in 0..20 {
+        let history = random_history(&PAPER, seed).map_err(|found| found.what);
+        let history = history.unwrap();
+        let call = &history.calls[0];
+        let (records, out) = (call.records.clone(), call.out);
+        let image = OWN.image(&StateFields::printed_run());
+        let single = Case::Single(Request {
+            image,
+            records,
+            out,
+        });
+        let stream = Case::Stream(history.first.clone());
+        for case in [Case::History(history), single, stream] {
+            assert_eq!(Case::read(&case.write()), Ok(case));
+        }
+    }
+}
+
+#[test]
+fn a_line_that_is_no_case_is_named() {
+    let read = |text: &str| Case::read(text).unwrap_err();
+    assert_eq!(
+        read("# why\n\njunk\n"),
+        "line 3: not a line of a case: junk"
+    );
+    assert_eq!(read("stream 0g\n"), "line 1: not hexadecimal: 0g");
+    let host = "hosts image\ncall 1 1139 checkpoint\n";
+    assert_eq!(read(host), "line 2: host 1 is not among the hosts");
+    assert_eq!(read("# nothing\n"), "no case is in it");
+}
+
+#[test]
+fn a_split_within_the_bound_is_seen() {
+    let first = StateFields::printed_run();
+    let one = performed(&first, about(8, &first, 101), &[(0, 1), (1, 1)]);
+    let other = |seats: &[(u8, u32)]| performed(&first, about(8, &first, 102), seats);
+    assert!(claims_of(&[one]).is_ok());
+    // No seat on both sheets, so the bound holds: a quorum that the node did not ask for.
+    let one = performed(&first, about(8, &first, 101), &[(0, 1), (1, 1)]);
+    assert!(claims_of(&[one, other(&[(2, 1), (1, 2)])]).is_err());
+    let one = performed(&first, about(8, &first, 101), &[(0, 1), (1, 1)]);
+    let beyond = claims_of(&[one, other(&[(1, 1), (2, 1)])]).unwrap();
+    assert!(!beyond.within && beyond.split && beyond.tight == 1);
+}
+
+#[test]
+fn a_start_from_elsewhere_is_not_lawful() {
+    let first = StateFields::printed_run();
+    let mut other = first.clone();
+    other.day = 1;
+    let start = |state: &StateFields| Records::Start(state.write(), records::start(0, 1));
+    assert!(
+        claims_of(&[event(&first, start(&first), &first)])
+            .unwrap()
+            .within
+    );
+    assert!(
+        !claims_of(&[
+            event(&first, start(&first), &first),
+            event(&other, start(&other), &other)
+        ])
+        .unwrap()
+        .within
+    );
+}
+
+#[test]
+fn an_ended_login_open_beyond_the_limit_is_seen() {
+    let first = StateFields::printed_run();
+    let mut later = first.clone();
+    (later.cycle, later.day) = (2, 101);
+    let mut last = later.clone();
+    last.cycle = 3;
+    let end = || performed(&first, about(9, &first, 101), &[(0, 1), (1, 1)]);
+    let grant = || performed(&later, about(8, &later, 101), &[(0, 1), (1, 1)]);
+    let ask =
+        |state: &StateFields, day| event(state, Records::Query(records::query(7, day, 0)), state);
+    assert_eq!(claims_of(&[end(), ask(&later, 131)]).unwrap().at_limit, 1);
+    assert!(claims_of(&[end(), ask(&later, 132)]).is_err());
+    assert!(claims_of(&[ask(&later, 132), end()]).is_err());
+    // The grant is one that the asked node has not passed.
+    assert!(claims_of(&[end(), grant(), ask(&later, 132)]).is_err());
+    assert_eq!(
+        claims_of(&[end(), grant(), ask(&last, 132)])
+            .unwrap()
+            .regranted,
+        1
+    );
+}
+
+#[test]
+fn a_failing_history_is_shortened() {
+    faulty::set(faulty::find("VoteKept"));
+    let found = (0..200).find_map(|seed| random_history(&FAULTY, seed).err());
+    let Case::History(before) = found.expect("a difference").case else {
+        panic!("not a history");
+    };
+    let (short, _) = rerun::shorten(&FAULTY, before.clone(), String::new());
+    assert!(before.calls.len() >= short.calls.len());
+    assert!(rerun::again(&FAULTY, &short, &mut |_, _| {}).is_err());
+    // A start, a vote and a delivery with a quorum are enough.
+    assert!(short.calls.len() <= 3, "{} calls", short.calls.len());
+    faulty::set(None);
+    assert!(rerun::again(&FAULTY, &short, &mut |_, _| {}).is_ok());
+}
+
+#[test]
+fn the_copy_without_a_fault_shows_no_difference() {
+    for seed in 100..120 {
+        assert!(random_history(&FAULTY, seed).is_ok());
+    }
+}

@@ -1,0 +1,38 @@
+//! The own part of an image: a line `own`, and a line `voted` below it if the node voted.
+
+use super::words::{Lines, Parse, Place, Words};
+use super::{announcement, values};
+use crate::layout::{ANNOUNCEMENT_SIZE, CHECKPOINT_SIZE, MISSES, OWN};
+
+/// An own part comes behind the 1,108 bytes of a checkpoint, well formed or not.
+pub fn require_checkpoint(place: Place, above: usize) -> Parse<()> {
+    if above == CHECKPOINT_SIZE {
+        return Ok(());
+    }
+    Err(place.error(format!(
+        "`own` makes an image of one checkpoint ({CHECKPOINT_SIZE} bytes) above it: {above} bytes \
+         are above it"
+    )))
+}
+
+/// What follows `own`, and the vote on the line below it. Nothing follows an image.
+pub fn compose(line: &mut Words, lines: &mut Lines) -> Parse<Vec<u8>> {
+    let mut out = values(line, &OWN)?;
+    let misses = values(line, &[MISSES])?;
+    line.finish()?;
+    match lines.next_if(|line| line.begins_with(&["voted"])) {
+        None => out.extend([0; 1 + ANNOUNCEMENT_SIZE]),
+        Some(mut vote) => {
+            vote.keyword("voted")?;
+            vote.keyword("announce")?;
+            out.push(1);
+            out.extend(announcement(&mut vote)?);
+            vote.finish()?;
+        }
+    }
+    out.extend(misses);
+    match lines.peek().and_then(Words::peek) {
+        Some(word) => Err(word.place.error("an image ends with its own part")),
+        None => Ok(out),
+    }
+}

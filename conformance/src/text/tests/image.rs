@@ -1,0 +1,109 @@
+//! Images as text.
+
+use super::{cases, compose, first_checkpoint, show};
+use crate::paper::{start, Answer};
+use crate::text::show_image;
+
+/// An image of the second implementation: after a vote and two bad queries.
+fn voted() -> Vec<u8> {
+    let bytes = |text: &str| compose(text).unwrap();
+    let first = bytes(&first_checkpoint());
+    let mut node = start(&first, &bytes("start seat 0 life 1")).unwrap();
+    let announcement = bytes("announce cycle 1 day 101 propose minima m 0 k 3 S 40");
+    let sheet = bytes("sheet level-1 0 level-2 rows");
+    assert_eq!(node.deliver(&announcement, &sheet), Answer::Voted);
+    let query = bytes("query login 777 day 100 right 0");
+    assert_eq!(node.query(&query), Answer::No(19));
+    assert_eq!(node.query(&query), Answer::No(19));
+    node.image()
+}
+
+#[test]
+fn an_image_of_the_second_implementation() {
+    let expected = first_checkpoint()
+        + "own seat 0 life 1 misses 2\n"
+        + "  voted announce cycle 1 day 101 propose minima m 0 k 3 S 40\n";
+    let image = voted();
+    for shown in [show(&image), show_image(&image)] {
+        assert_eq!(shown.text, expected);
+        assert!(!shown.malformed);
+    }
+    assert_eq!(compose(&expected), Ok(image));
+}
+
+#[test]
+fn an_image_without_a_vote() {
+    let text = first_checkpoint() + "own seat 2 life 4294967295 misses 10\n";
+    let image = compose(&text).unwrap();
+    assert_eq!(image.len(), 1139);
+    assert_eq!(show(&image).text, text);
+}
+
+/// OwnFields parts that are malformed, and the comment that follows their bytes.
+const MALFORMED: &str = "\
+own seat 32 life 1 misses 0
+  seat 32 is not in 0 to 31, at byte 0 of these, 1108
+own seat 5 life 1 misses 0
+  seat 5 is free, at byte 0 of these, 1108
+own seat 0 life 0 misses 0
+  life 0 is below 1, at byte 1 of these, 1109
+own seat 0 life 1 misses 11
+  misses 11 is not in 0 to 10, at byte 30 of these, 1138
+own seat 0 life 1 misses 0 / voted announce cycle 2 day 101 end login 5
+  the vote is of cycle 2, the checkpoint of 1, at byte 10 of these, 1118
+own seat 0 life 1 misses 0 / voted announce cycle 1 day 101 remove seat 32
+  seat 32 is not in 0 to 31, at byte 18 of these, 1126
+";
+
+#[test]
+fn malformed_own_parts() {
+    for (own, why) in cases(MALFORMED) {
+        let image = compose(&(first_checkpoint() + &own)).unwrap();
+        let shown = show(&image);
+        let (checkpoint, own) = shown.text.split_at(first_checkpoint().len());
+        assert_eq!(checkpoint, first_checkpoint());
+        let comment = format!("# malformed: {why} of the input\nbytes ");
+        assert!(own.starts_with(&comment), "{own}");
+        assert!(shown.malformed);
+    }
+}
+
+#[test]
+fn a_malformed_checkpoint_of_an_image() {
+    let mut image = voted();
+    image[4] = 0;
+    let text = show(&image).text;
+    let comment = "# malformed: cycle 0 is below 1, at byte 4 of these, 4 of the input\n";
+    assert!(text.starts_with(&format!("{comment}bytes 52 04 10 00 00 00")));
+    // The vote is not of that cycle either.
+    assert!(text.contains("of 0, at byte 10 of these, 1118 of the input\nbytes "));
+    assert_eq!(compose(&text), Ok(image));
+}
+
+#[test]
+fn images_of_other_sizes() {
+    let image = voted();
+    for input in [&image[..1138], &[&image[..], &[0]].concat(), &[]] {
+        let shown = show_image(input);
+        let why = format!("# malformed: an image has 1139 bytes, not {}", input.len());
+        assert!(shown.text.contains(&why));
+        assert!(shown.malformed);
+        assert_eq!(compose(&shown.text).as_deref(), Ok(input));
+    }
+}
+
+#[test]
+fn records_of_the_size_of_an_image() {
+    let text = first_checkpoint()
+        + "start seat 0 life 1\nstart seat 0 life 1\nquery login 501 day 120 right 0\n";
+    let input = compose(&text).unwrap();
+    assert_eq!(input.len(), 1139);
+    assert_eq!(show(&input).text, text);
+    let text = "start seat 0 life 1\n".to_string()
+        + &first_checkpoint()
+        + "start seat 0 life 1\nquery login 501 day 120 right 0\n";
+    let input = compose(&text).unwrap();
+    assert_eq!(input.len(), 1139);
+    assert_eq!(show(&input).text, text);
+    assert!(show_image(&input).malformed);
+}

@@ -1,0 +1,122 @@
+//! Random records: what is shown composes to the same bytes, and is malformed exactly where the
+//! second implementation says so.
+
+use super::{compose, show};
+use crate::compare::fields::StateFields;
+use crate::compare::make::random::Random;
+use crate::compare::make::sheets::{any_aim, sheet};
+use crate::compare::make::{announcements, malformed, starts_queries, states};
+use crate::layout::framed;
+use crate::paper::Node;
+use crate::text::show_image;
+use crate::text::warnings::refusal;
+
+/// Whether an input is well-formed records and nothing else.
+pub fn all_read_by_paper(mut input: &[u8]) -> bool {
+    while !input.is_empty() {
+        let (record, rest) = input.split_at(framed(input));
+        if refusal(record).is_some() {
+            return false;
+        }
+        input = rest;
+    }
+    true
+}
+
+/// One of each sort, well formed.
+fn records(rng: &mut Random, state: &StateFields) -> Vec<Vec<u8>> {
+    let announcement = announcements::any(rng, state);
+    let aim = any_aim(rng);
+    let sheet = sheet(rng, state, u16::from(announcement[2]), aim, &[]);
+    vec![
+        starts_queries::start(rng, state),
+        state.write(),
+        announcement,
+        sheet,
+        starts_queries::query(rng, state),
+    ]
+}
+
+fn check(input: &[u8], well_formed: bool) {
+    let shown = show(input);
+    assert_eq!(compose(&shown.text).as_deref(), Ok(input), "{}", shown.text);
+    assert_eq!(shown.malformed, !well_formed, "{}", shown.text);
+    let comments = shown.text.contains("# malformed: ");
+    assert_eq!(comments, shown.malformed);
+}
+
+#[test]
+fn well_formed_records() {
+    let mut rng = Random::new(1);
+    for _ in 0..3000 {
+        let state = states::any_view(&mut rng);
+        let input = records(&mut rng, &state).concat();
+        assert!(all_read_by_paper(&input));
+        check(&input, true);
+    }
+}
+
+#[test]
+fn damaged_records() {
+    let mut rng = Random::new(2);
+    let mut damaged = 0;
+    for _ in 0..4000 {
+        let state = states::any_view(&mut rng);
+        let mut records = records(&mut rng, &state);
+        let place = rng.below(5);
+        match place {
+            1 => records[1] = malformed::checkpoint(&mut rng, &state),
+            3 => malformed::sheet(&mut rng, &mut records[3]),
+            _ => malformed::bytes(&mut rng, &mut records[place]),
+        }
+        let alone = all_read_by_paper(&records[place]);
+        check(&records[place], alone);
+        let all = records.concat();
+        check(&all, all_read_by_paper(&all));
+        damaged += usize::from(!alone);
+    }
+    assert!(damaged > 2000, "{damaged}");
+}
+
+#[test]
+fn every_cut_of_a_stream() {
+    let mut rng = Random::new(3);
+    let state = states::any_view(&mut rng);
+    let input = records(&mut rng, &state).concat();
+    for end in 0..input.len() {
+        check(&input[..end], all_read_by_paper(&input[..end]));
+    }
+}
+
+#[test]
+fn any_bytes() {
+    let mut rng = Random::new(4);
+    for _ in 0..5000 {
+        let length = rng.below(120);
+        let small = rng.chance(70);
+        let mut byte = || rng.byte() & if small { 31 } else { 255 };
+        let input: Vec<u8> = (0..length).map(|_| byte()).collect();
+        check(&input, all_read_by_paper(&input));
+    }
+}
+
+#[test]
+fn images() {
+    let mut rng = Random::new(5);
+    for _ in 0..4000 {
+        let mut state = states::any_view(&mut rng);
+        let own = states::any_own(&mut rng, &state);
+        if rng.chance(20) {
+            state = StateFields::read(&malformed::checkpoint(&mut rng, &state)).unwrap();
+        }
+        let mut image = own.image(&state);
+        if rng.chance(60) {
+            malformed::own(&mut rng, &mut image);
+        }
+        let well_formed = Node::from_image(&image).is_some();
+        let shown = show_image(&image);
+        assert_eq!(compose(&shown.text).as_ref(), Ok(&image), "{}", shown.text);
+        assert_eq!(shown.malformed, !well_formed, "{}", shown.text);
+        assert_eq!(show(&image), shown);
+    }
+}

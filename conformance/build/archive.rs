@@ -7,10 +7,9 @@ use std::path::{Path, PathBuf};
 pub fn link(package: &Path) {
     println!("cargo::rerun-if-env-changed=NODE_C_DIR");
     println!("cargo::rustc-check-cfg=cfg(no_archive)");
-    let folder = match std::env::var_os("NODE_C_DIR") {
-        Some(folder) => PathBuf::from(folder),
-        None => package.join("../target/staticlib"),
-    };
+    let named = std::env::var_os("NODE_C_DIR");
+    let is_named = named.is_some();
+    let folder = named.map_or(package.join("../target/staticlib"), PathBuf::from);
     if folder.join("libnode_c.a").is_file() {
         let archive = folder.join("libnode_c.a");
         println!("cargo::rerun-if-changed={}", archive.display());
@@ -19,8 +18,10 @@ pub fn link(package: &Path) {
         return;
     }
     println!("cargo::rustc-cfg=no_archive");
-    // Cargo would compile anew each time while a path that it watches is missing, so the folder is
-    // made; that it can't be made costs no more than that.
-    let _ = std::fs::create_dir_all(&folder);
+    // Cargo would compile anew each time while a path that it watches is missing, so the folder of
+    // the archive is made; that it can't be made costs no more than that.
+    if !is_named {
+        let _ = std::fs::create_dir_all(&folder);
+    }
     println!("cargo::rerun-if-changed={}", folder.display());
 }

@@ -11,7 +11,6 @@ pub struct Fault {
 }
 
 /// A change to a file of src/paper. Both texts have their lines without indentation.
-#[derive(Default)]
 pub struct Edit {
     pub file: String,
     pub old: String,
@@ -89,18 +88,12 @@ impl Reader {
         match key.trim_end_matches(':') {
             "#" => self.fault(place, text)?,
             "file" => self.source = text.trim().to_string(),
-            "old" => self.last()?.edits.push(Edit {
-                old: text.trim().to_string(),
-                ..Edit::default()
-            }),
+            "old" => {
+                let (file, old, new) = (self.source.clone(), text.trim().to_string(), None);
+                self.last()?.edits.push(Edit { file, old, new });
+            }
             "new" => *self.last_new()? = Some(text.trim().to_string()),
             _ => return Err(format!("`{key}` is not #, file:, old: or new:")),
-        }
-        let file = self.source.clone();
-        if let Some(edit) = self.faults.last_mut().and_then(|f| f.edits.last_mut()) {
-            if edit.file.is_empty() {
-                edit.file = file;
-            }
         }
         Ok(())
     }

@@ -1,6 +1,7 @@
 //! The programs as they are called: what they print, where, and their exit statuses.
 
 use std::io::Write;
+use std::path::{Path, PathBuf};
 use std::process::{Command, Output, Stdio};
 
 fn run(program: &str, arguments: &[&str], input: &[u8]) -> Output {
@@ -126,33 +127,62 @@ fn a_wrong_path_is_found_before_any_call() {
     }
 }
 
+/// A folder of its own for a test that keeps cases.
+fn folder(name: &str) -> PathBuf {
+    let name = format!("conformance-{}-{name}", std::process::id());
+    let folder = std::env::temp_dir().join(name);
+    std::fs::create_dir_all(&folder).unwrap();
+    folder
+}
+
+fn compare_in(folder: &Path, words: &[&str]) -> (i32, String, String) {
+    let mut compare = Command::new(COMPARE);
+    printed(compare.args(words).current_dir(folder).output().unwrap())
+}
+
 #[test]
 fn a_difference_has_status_1_and_is_kept_apart() {
-    let folder = std::env::temp_dir().join(format!("conformance-{}", std::process::id()));
-    std::fs::create_dir_all(&folder).unwrap();
-    let compare = |words: &[&str]| {
-        let output = Command::new(COMPARE)
-            .args(words)
-            .current_dir(&folder)
-            .output();
-        printed(output.unwrap())
-    };
+    let folder = folder("kept");
     for file in ["compare-failure-1.txt", "compare-failure-1-2.txt"] {
-        let (status, text, _) = compare(&["--fault", "StartWithMiss", "1", "1000"]);
+        let (status, text, _) = compare_in(&folder, &["--fault", "StartWithMiss", "1", "1000"]);
         assert_eq!(status, 1);
         assert!(text.contains(&format!("kept in {file}: ")), "{text}");
         assert!(text.contains("\nstart seat "), "{text}");
-        let (status, again, _) = compare(&["--replay", file]);
+        let (status, again, _) = compare_in(&folder, &["--replay", file]);
         assert_eq!(status, 0, "{again}");
-        let (status, again, _) = compare(&["--fault", "StartWithMiss", "--replay", file]);
+        let words = ["--fault", "StartWithMiss", "--replay", file];
+        let (status, again, _) = compare_in(&folder, &words);
         assert_eq!(status, 1, "{again}");
         assert!(again.contains("DIFFERENCE: "), "{again}");
     }
     std::fs::write(folder.join("bad"), "# why\njunk\n").unwrap();
-    let (status, _, errors) = compare(&["--replay", "bad"]);
+    let (status, _, errors) = compare_in(&folder, &["--replay", "bad"]);
     assert_eq!(status, 2);
     assert_eq!(errors, "compare: bad: line 2: not a line of a case: junk\n");
     std::fs::remove_dir_all(&folder).unwrap();
+}
+
+#[test]
+fn a_program_that_prints_anything_is_escaped() {
+    let folder = folder("escaped");
+    let words = ["--node-run", "/bin/cat", "3", "60000"];
+    let (status, text, _) = compare_in(&folder, &words);
+    assert_eq!(status, 1);
+    let is_plain = |c: char| !c.is_control() || c == '\n';
+    assert!(text.chars().all(is_plain), "{text:?}");
+    let (status, _, errors) = compare_in(&folder, &["--replay", "compare-failure-3.txt"]);
+    assert_eq!(status, 2, "{errors}");
+    std::fs::remove_dir_all(&folder).unwrap();
+}
+
+#[test]
+fn faults_refuses_a_program_that_differs_by_itself() {
+    let (status, _, errors) = printed(run(FAULTS, &["--node-run", "/bin/cat"], b""));
+    assert_eq!(status, 4);
+    assert!(
+        errors.contains("without a fault there is a difference"),
+        "{errors}"
+    );
 }
 
 #[test]
@@ -160,19 +190,6 @@ fn too_few_calls_have_status_3() {
     let (status, text, _) = printed(run(COMPARE, &["1", "1000"], b""));
     assert_eq!(status, 3);
     assert!(text.ends_with("no difference, not all met\n"), "{text}");
-}
-
-#[test]
-fn a_program_that_prints_anything_is_escaped() {
-    let (status, text, _) = printed(run(COMPARE, &["--node-run", "/bin/cat", "3", "60000"], b""));
-    assert_eq!(status, 1);
-    let is_plain = |c: char| !c.is_control() || c == '\n';
-    assert!(text.chars().all(is_plain), "{text:?}");
-    let kept = text.lines().last().unwrap();
-    let file = kept
-        .strip_prefix("kept in ")
-        .and_then(|rest| rest.split(':').next());
-    std::fs::remove_file(file.unwrap()).unwrap();
 }
 
 #[test]
@@ -275,7 +292,7 @@ fn records_without_words_prints_the_page() {
 
 #[test]
 fn paper_run_prints_the_printed_run() {
-    let package = std::path::Path::new(env!("CARGO_MANIFEST_DIR"));
+    let package = Path::new(env!("CARGO_MANIFEST_DIR"));
     let input = std::fs::read(package.join("../examples/printed-run.bin")).unwrap();
     let lines = "1 started 1\n2 voted 1\n3 done 2\n4 open 2\n5 no 20 2\n6 no 18 2\n";
     let expected = (0, lines.to_string(), String::new());

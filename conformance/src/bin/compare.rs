@@ -34,6 +34,7 @@ struct Options {
     second: &'static Second,
     node_run: Option<PathBuf>,
     replay: Option<PathBuf>,
+    /// SEED and COUNT.
     numbers: Vec<u64>,
 }
 
@@ -65,7 +66,11 @@ fn options(words: Vec<String>) -> Result<Options, String> {
             },
         }
     }
-    Ok(options)
+    match (&options.replay, options.numbers.len()) {
+        (Some(_), 0) | (None, 2) => Ok(options),
+        (Some(_), _) => Err("--replay takes no SEED and COUNT".to_string()),
+        (None, _) => Err("SEED and COUNT are expected".to_string()),
+    }
 }
 
 fn main() -> ExitCode {
@@ -81,36 +86,25 @@ fn run() -> Result<ExitCode, ExitCode> {
         return Ok(ExitCode::SUCCESS);
     }
     let options = options(words).map_err(|what| PROGRAM.wrong(&what))?;
-    let node_run = options.node_run.as_deref();
-    let is_search = match (&options.replay, options.numbers.len()) {
-        (Some(_), 0) => false,
-        (None, 2) => true,
-        (Some(_), _) => return Err(PROGRAM.wrong("--replay takes no SEED and COUNT")),
-        (None, _) => return Err(PROGRAM.wrong("SEED and COUNT are expected")),
-    };
     PROGRAM.require_archive()?;
-    if let Some(program) = node_run {
-        program::require(program).map_err(|what| PROGRAM.failed(&format!("--node-run {what}")))?;
+    if let Some(program) = &options.node_run {
+        let found = program::require(program);
+        found.map_err(|what| PROGRAM.failed(&format!("--node-run {what}")))?;
     }
-    match &options.replay {
-        Some(file) if !is_search => replay_file(&options, file, node_run),
-        _ => Ok(compare(&options, options.numbers[0], options.numbers[1])),
+    match (&options.replay, options.numbers.as_slice()) {
+        (Some(file), _) => replay_file(&options, file),
+        (None, numbers) => Ok(compare(&options, numbers[0], numbers[1])),
     }
 }
 
-fn replay_file(
-    options: &Options,
-    file: &Path,
-    node_run: Option<&Path>,
-) -> Result<ExitCode, ExitCode> {
+fn replay_file(options: &Options, file: &Path) -> Result<ExitCode, ExitCode> {
     let failed = |what: String| PROGRAM.failed(&format!("{}: {what}", file.display()));
     let text = std::fs::read_to_string(file).map_err(|error| failed(error.to_string()))?;
     let case = Case::read(&text).map_err(failed)?;
-    let is_stream = matches!(case, Case::Stream(_));
-    if is_stream && node_run.is_none() {
-        return Err(failed(
-            "an input of node-run is kept in it: --node-run PATH is needed".into(),
-        ));
+    let node_run = options.node_run.as_deref();
+    if matches!(case, Case::Stream(_)) && node_run.is_none() {
+        let what = "an input of node-run is kept in it: --node-run PATH is needed";
+        return Err(failed(what.to_string()));
     }
     Ok(match replay::replay(options.second, &case, node_run) {
         true => ExitCode::SUCCESS,

@@ -29,18 +29,18 @@ pub struct Stages {
     /// When the last line of progress was printed; none: no progress is told.
     told: Option<Instant>,
     pub coverage: Coverage,
-    pub histories: u64,
+    histories: u64,
     /// Histories with lawful starts and within the bound on double voters, whose claims were
     /// checked.
-    pub within: u64,
+    within: u64,
     /// Histories beyond the bound in which two nodes at one cycle differ.
-    pub split: u64,
+    split: u64,
     /// Sums of the tallies of the same name.
-    pub shared: u64,
-    pub tight: u64,
-    pub regranted: u64,
-    pub at_limit: u64,
-    pub streams: u64,
+    shared: u64,
+    tight: u64,
+    regranted: u64,
+    at_limit: u64,
+    streams: u64,
 }
 
 impl Stages {

@@ -33,7 +33,7 @@ pub struct HistoryMaker {
 impl HistoryMaker {
     /// A maker, and the history without its calls.
     pub fn new(mut rng: Random) -> (HistoryMaker, History) {
-        let first = states::any_view(&mut rng).write();
+        let first = states::any_state(&mut rng).write();
         let by_value = (0..rng.within(3, 8)).map(|_| rng.chance(40)).collect();
         let habits = Habits::any(&mut rng);
         let history = History {
@@ -136,7 +136,7 @@ impl HistoryMaker {
             return Records::Checkpoint;
         };
         if !self.habits.lawful && self.rng.chance(20) {
-            checkpoint = states::any_view(&mut self.rng).write();
+            checkpoint = states::any_state(&mut self.rng).write();
         } else if self.rng.chance(self.habits.damage) {
             checkpoint = malformed::checkpoint(&mut self.rng, &state);
         }

@@ -13,7 +13,7 @@ use crate::layout::{kind_of, CHECKPOINT_SIZE, IMAGE_SIZE};
 
 /// Requests to one state.
 pub fn requests(rng: &mut Random) -> Vec<Request> {
-    let state = states::any_view(rng);
+    let state = states::any_state(rng);
     let own = states::any_own(rng, &state);
     (0..8).map(|_| any_request(rng, &state, &own)).collect()
 }

@@ -9,7 +9,7 @@ use crate::compare::fields::{
 };
 use std::collections::BTreeSet;
 
-pub fn any_view(rng: &mut Random) -> StateFields {
+pub fn any_state(rng: &mut Random) -> StateFields {
     let mut state = StateFields::printed_run();
     set_seats(rng, &mut state);
     set_minima(rng, &mut state);

@@ -20,37 +20,24 @@ const LONGEST_OUT: usize = IMAGE_SIZE + 11;
 
 /// Requests to be damaged: a start, a query, a checkpoint and a delivery of each kind.
 pub fn bases(rng: &mut Random) -> Vec<Request> {
-    let state = states::any_view(rng);
+    let state = states::any_state(rng);
     let own = states::any_own(rng, &state);
-    let image = own.image(&state);
-    let out = IMAGE_SIZE;
     let start = starts_queries::start(rng, &state);
     let mut bases = vec![
-        Request {
-            image: Vec::new(),
-            records: Records::Start(state.write(), start),
-            out,
-        },
-        Request {
-            image: image.clone(),
-            records: Records::Query(starts_queries::query(rng, &state)),
-            out,
-        },
-        Request {
-            image: image.clone(),
-            records: Records::Checkpoint,
-            out,
-        },
+        Records::Start(state.write(), start),
+        Records::Query(starts_queries::query(rng, &state)),
+        Records::Checkpoint,
     ];
-    for kind in 1..10 {
-        let records = delivery(rng, &state, kind);
-        bases.push(Request {
-            image: image.clone(),
-            records,
-            out,
-        });
-    }
-    bases
+    bases.extend((1..10).map(|kind| delivery(rng, &state, kind)));
+    let request = |records| Request {
+        image: match records {
+            Records::Start(..) => Vec::new(),
+            _ => own.image(&state),
+        },
+        records,
+        out: IMAGE_SIZE,
+    };
+    bases.into_iter().map(request).collect()
 }
 
 fn delivery(rng: &mut Random, state: &StateFields, kind: u16) -> Records {

@@ -49,7 +49,7 @@ fn check(input: &[u8], well_formed: bool) {
 fn well_formed_records() {
     let mut rng = Random::new(1);
     for _ in 0..3000 {
-        let state = states::any_view(&mut rng);
+        let state = states::any_state(&mut rng);
         let input = records(&mut rng, &state).concat();
         assert!(all_read_by_paper(&input));
         check(&input, true);
@@ -61,7 +61,7 @@ fn damaged_records() {
     let mut rng = Random::new(2);
     let mut damaged = 0;
     for _ in 0..4000 {
-        let state = states::any_view(&mut rng);
+        let state = states::any_state(&mut rng);
         let mut records = records(&mut rng, &state);
         let place = rng.below(5);
         match place {
@@ -81,7 +81,7 @@ fn damaged_records() {
 #[test]
 fn every_cut_of_a_stream() {
     let mut rng = Random::new(3);
-    let state = states::any_view(&mut rng);
+    let state = states::any_state(&mut rng);
     let input = records(&mut rng, &state).concat();
     for end in 0..input.len() {
         check(&input[..end], all_read_by_paper(&input[..end]));
@@ -104,7 +104,7 @@ fn any_bytes() {
 fn images() {
     let mut rng = Random::new(5);
     for _ in 0..4000 {
-        let mut state = states::any_view(&mut rng);
+        let mut state = states::any_state(&mut rng);
         let own = states::any_own(&mut rng, &state);
         if rng.chance(20) {
             state = StateFields::read(&malformed::checkpoint(&mut rng, &state)).unwrap();

@@ -50,8 +50,7 @@ fn module(line: &str) -> Option<&str> {
 
 /// What of paper.rs stands in the copy as it is.
 fn is_own(line: &str) -> bool {
-    let is_test = line == "#[cfg(test)]" || line == "mod tests;";
-    !is_test && !line.starts_with("//!") && module(line).is_none()
+    !line.starts_with("//!") && module(line).is_none()
 }
 
 fn change(sources: &mut [Source], number: usize, edit: &Edit) -> Result<(), String> {

@@ -1,4 +1,5 @@
-//! The shipped static library through its C interface. The only unsafe code of the package.
+//! The shipped static library through its C interface. With the guarded slices of `corpus`, the only
+//! unsafe code of the package.
 
 /// Whether the library was there when the package was built.
 pub const IS_LINKED: bool = cfg!(not(no_archive));

@@ -15,9 +15,6 @@ pub mod run;
 pub mod start;
 pub mod state;
 
-#[cfg(test)]
-mod tests;
-
 pub use node::Node;
 pub use start::start;
 

@@ -1,6 +1,8 @@
 //! Runs the corpus through the archive, the second implementation and node-run. `corpus --help`
 //! says how it is used.
 
+use conformance::archive;
+use conformance::command_line::{print, Program};
 use conformance::corpus::check::Checker;
 use conformance::corpus::export;
 use conformance::corpus::file::{self, Run};
@@ -9,29 +11,34 @@ use std::io::{self, Write};
 use std::path::{Path, PathBuf};
 use std::process::ExitCode;
 
-const USAGE: &str = include_str!("../corpus/usage.txt");
+const PROGRAM: Program = Program {
+    name: "corpus",
+    usage: "usage: corpus [--node-run PATH] [FILE..] | input FILE | answers FILE | calls [FILE..]",
+    help: include_str!("../corpus/usage.txt"),
+};
 
-/// What ends the program before its work is done: a message, with the status 2.
+/// What ends the program before its work is done: a message, with the status for wrong use.
 type Done = Result<ExitCode, String>;
 
 fn main() -> ExitCode {
-    let words: Vec<String> = std::env::args().skip(1).collect();
+    begin().unwrap_or_else(|status| status)
+}
+
+fn begin() -> Result<ExitCode, ExitCode> {
+    let words = PROGRAM.words()?;
     let words: Vec<&str> = words.iter().map(String::as_str).collect();
     let done = match words.as_slice() {
-        ["--help" | "-h"] => print(USAGE.as_bytes()),
         ["input", path] => write(path, |runs| Ok(export::only_run(runs)?.input())),
         ["answers", path] => write(path, |runs| Ok(export::only_run(runs)?.lines())),
         [word @ ("input" | "answers"), ..] => {
-            Err(format!("{word} takes one file; see corpus --help"))
+            return Err(PROGRAM.wrong(&format!("{word} takes one file")))
         }
         ["calls", paths @ ..] => calls(paths),
+        ["--node-run"] => return Err(PROGRAM.wrong("--node-run takes a path")),
         ["--node-run", program, paths @ ..] => run(program.into(), paths),
         paths => run(root().join("target/bin/node_run"), paths),
     };
-    done.unwrap_or_else(|message| {
-        eprintln!("corpus: {message}");
-        ExitCode::from(2)
-    })
+    done.map_err(|message| PROGRAM.failed(&message))
 }
 
 /// The folder of the repository.
@@ -39,17 +46,12 @@ fn root() -> PathBuf {
     Path::new(env!("CARGO_MANIFEST_DIR")).join("..")
 }
 
-fn print(bytes: &[u8]) -> Done {
-    let mut out = io::stdout();
-    let printed = out.write_all(bytes).and_then(|()| out.flush());
-    let failed = |error: io::Error| error.to_string();
-    printed.map(|()| ExitCode::SUCCESS).map_err(failed)
-}
-
-/// The files that are named, or all of the corpus; each with the name for messages.
+/// The files that are named, or all of the corpus and the demo; each with the name for messages.
 fn files(paths: &[&str]) -> Result<Vec<(String, PathBuf)>, String> {
     if let Some(word) = paths.iter().find(|path| path.starts_with('-')) {
-        return Err(format!("{word} is not understood; see corpus --help"));
+        return Err(format!(
+            "{word} is not understood; corpus --help says how it is called"
+        ));
     }
     if !paths.is_empty() {
         let named = paths.iter().map(|path| (path.to_string(), path.into()));
@@ -66,6 +68,7 @@ fn files(paths: &[&str]) -> Result<Vec<(String, PathBuf)>, String> {
         }
     }
     all.sort();
+    all.push(("examples/demo.txt".into(), root().join("examples/demo.txt")));
     Ok(all)
 }
 
@@ -81,7 +84,8 @@ fn at(name: &str, (line, what): Found) -> String {
 /// Writes what is made of one file.
 fn write(name: &str, make: impl Fn(&[Run]) -> Result<Vec<u8>, Found>) -> Done {
     let runs = read(name, Path::new(name))?;
-    print(&make(&runs).map_err(|found| at(name, found))?)
+    let made = make(&runs).map_err(|found| at(name, found))?;
+    Ok(print(&made, ExitCode::SUCCESS))
 }
 
 fn calls(paths: &[&str]) -> Done {
@@ -90,10 +94,13 @@ fn calls(paths: &[&str]) -> Done {
         let runs = read(&name, &path)?;
         all.extend(export::calls(&runs).map_err(|found| at(&name, found))?);
     }
-    print(&all)
+    Ok(print(&all, ExitCode::SUCCESS))
 }
 
 fn run(node_run: PathBuf, paths: &[&str]) -> Done {
+    if !archive::IS_LINKED {
+        return Err(archive::MISSING.to_string());
+    }
     if !node_run.is_file() {
         return Err(format!("no node-run at {}", node_run.display()));
     }

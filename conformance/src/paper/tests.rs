@@ -1,7 +1,0 @@
-//! The document's examples.
-
-mod build;
-mod printed;
-mod round_trip;
-mod states;
-mod table;

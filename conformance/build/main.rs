@@ -14,7 +14,8 @@ fn main() -> ExitCode {
     match plant(package) {
         Ok(()) => ExitCode::SUCCESS,
         Err(message) => {
-            println!("cargo::error={message}");
+            // A message to cargo has one line.
+            println!("cargo::error={}", message.replace('\n', " "));
             ExitCode::FAILURE
         }
     }

@@ -74,12 +74,13 @@ pub const LIFE: Field = number("life", 4, 0, MAX);
 pub const HELD_LIFE: Field = number("life", 4, 1, MAX);
 const CYCLE: Field = number("cycle", 4, 0, MAX);
 const DAY: Field = number("day", 4, 0, MAX);
-const TRUSTEES: Field = number("trustees", 1, 1, 8);
-const MARGIN: Field = number("m", 1, 0, 7);
-const LEAST_QUORUM: Field = number("k", 1, 1, 32);
-const SILENCE: Field = number("S", 2, 1, 365);
+pub const TRUSTEES: Field = number("trustees", 1, 1, 8);
+pub const MARGIN: Field = number("m", 1, 0, 7);
+pub const LEAST_QUORUM: Field = number("k", 1, 1, 32);
+pub const SILENCE: Field = number("S", 2, 1, 365);
 /// "login 0 in a query or end" is well formed; those of a grant and a list are at least 1.
 const ANY_LOGIN: Field = number("login", 4, 0, MAX);
+pub const RIGHT: Field = number("right", 1, 0, 15);
 pub const MISSES: Field = number("misses", 1, 0, 10);
 pub const STANDING: Field = number("standing", 1, 0, 3);
 pub const VOTED: Field = number("voted flag", 1, 0, 1);
@@ -88,7 +89,7 @@ pub const KIND: Field = number("kind", 2, 1, 9);
 pub const SUBJECT_KIND: Field = number("subject kind", 2, 4, 6);
 
 pub const START: [Field; 2] = [SEAT, LIFE];
-pub const QUERY: [Field; 3] = [ANY_LOGIN, DAY, number("right", 1, 0, 15)];
+pub const QUERY: [Field; 3] = [ANY_LOGIN, DAY, RIGHT];
 /// Of a sheet; the row count and the rows follow.
 pub const MASKS: [Field; 2] = [bits("level-1", 1, 0), bits("level-2", 1, 0)];
 pub const ROW: [Field; 2] = [SEAT, LIFE];

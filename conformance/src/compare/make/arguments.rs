@@ -4,25 +4,25 @@ use super::random::Random;
 use super::records;
 use super::values;
 use crate::compare::fields::{Proposal, StateFields, CERTIFIED, FREE, PRESENT};
-use crate::layout::{self, ACTIONS};
+use crate::layout::{self, ACTIONS, LEAST_QUORUM, MARGIN, SEAT, SUBJECT_KIND, SUBJECT_SIZE};
 
 /// Chance in percent that arguments are made without a look at the state.
 const WILD: u32 = 8;
 
 /// A subject of a proposal: its kind and its arguments, well formed.
-pub fn any(rng: &mut Random, state: &StateFields) -> (u16, [u8; 8]) {
-    let kind = rng.pick(&[4, 5, 6]);
+pub fn any(rng: &mut Random, state: &StateFields) -> (u16, [u8; SUBJECT_SIZE]) {
+    let kind = rng.of(&SUBJECT_KIND) as u16;
     (kind, subject(rng, state, kind))
 }
 
 /// Well-formed arguments of kinds 4, 5 and 6.
-pub fn subject(rng: &mut Random, state: &StateFields, kind: u16) -> [u8; 8] {
+pub fn subject(rng: &mut Random, state: &StateFields, kind: u16) -> [u8; SUBJECT_SIZE] {
     match kind {
         // The bytes of a certify that are also those of a minima: only the kind tells the proposals
         // apart.
         4 if rng.chance(15) => {
             let mut both = minima(rng, state);
-            both[0] = (0..8)
+            both[0] = (0..=MARGIN.high as u8)
                 .find(|&seat| state.seats[usize::from(seat)].standing == FREE)
                 .unwrap_or(both[0]);
             both
@@ -38,11 +38,11 @@ pub fn subject(rng: &mut Random, state: &StateFields, kind: u16) -> [u8; 8] {
     }
 }
 
-fn minima(rng: &mut Random, state: &StateFields) -> [u8; 8] {
+fn minima(rng: &mut Random, state: &StateFields) -> [u8; SUBJECT_SIZE] {
     let present = state.present().max(1) as u32;
     let wild = rng.chance(WILD);
     let most = if wild {
-        7
+        MARGIN.high
     } else {
         values::most_margin(present as usize)
     };
@@ -53,11 +53,11 @@ fn minima(rng: &mut Random, state: &StateFields) -> [u8; 8] {
     };
     // One seat more or less than there are puts the quorum on either side of p.
     let top = if rng.chance(15) {
-        (present + 1).min(32)
+        (present + 1).min(LEAST_QUORUM.high)
     } else {
         present
     };
-    let top = if wild { 32 } else { top };
+    let top = if wild { LEAST_QUORUM.high } else { top };
     let least = if rng.chance(60) {
         rng.pick(&[1, top])
     } else {
@@ -71,9 +71,9 @@ fn seat_of(rng: &mut Random, state: &StateFields, standings: &[u8]) -> u8 {
     let seats = state.seats_of(standings);
     if seats.is_empty() || rng.chance(WILD) {
         return if rng.chance(20) {
-            rng.pick(&[0, 31])
+            rng.end(&SEAT) as u8
         } else {
-            rng.below(32) as u8
+            rng.seat()
         };
     }
     rng.pick(&seats)
@@ -125,7 +125,7 @@ fn cancelled(rng: &mut Random, state: &StateFields) -> u32 {
 }
 
 /// The arguments of a listed proposal of this kind, mostly; else one byte beside them or new ones.
-fn listed_subject(rng: &mut Random, state: &StateFields, kind: u16) -> [u8; 8] {
+fn listed_subject(rng: &mut Random, state: &StateFields, kind: u16) -> [u8; SUBJECT_SIZE] {
     let other = rng.chance(15);
     let fits = |row: &&Proposal| {
         if other {
@@ -134,7 +134,7 @@ fn listed_subject(rng: &mut Random, state: &StateFields, kind: u16) -> [u8; 8] {
             row.kind == kind
         }
     };
-    let listed: Vec<[u8; 8]> = state
+    let listed: Vec<[u8; SUBJECT_SIZE]> = state
         .proposals
         .iter()
         .filter(fits)
@@ -147,7 +147,7 @@ fn listed_subject(rng: &mut Random, state: &StateFields, kind: u16) -> [u8; 8] {
 }
 
 /// Whether the arguments of another kind would do for this one.
-fn well_formed(kind: u16, arguments: [u8; 8]) -> bool {
+fn well_formed(kind: u16, arguments: [u8; SUBJECT_SIZE]) -> bool {
     let (_, fields) = ACTIONS[usize::from(kind) - 1];
     let values = layout::values(fields, &arguments, 0);
     let mut pairs = fields.iter().zip(values);
@@ -158,7 +158,7 @@ fn well_formed(kind: u16, arguments: [u8; 8]) -> bool {
             .all(|byte| *byte == 0)
 }
 
-fn rejoin(rng: &mut Random, state: &StateFields) -> [u8; 8] {
+fn rejoin(rng: &mut Random, state: &StateFields) -> [u8; SUBJECT_SIZE] {
     let seat = seat_of(rng, state, &[CERTIFIED, PRESENT]);
     let listed = state.seats[usize::from(seat)].life;
     let life = match rng.below(8) {

@@ -1,5 +1,7 @@
 //! Random numbers (splitmix64): a seed gives the same histories on every machine.
 
+use crate::layout::{Field, SEAT};
+
 pub struct Random(u64);
 
 impl Random {
@@ -24,6 +26,21 @@ impl Random {
     pub fn within(&mut self, low: u32, high: u32) -> u32 {
         let span = u64::from(high - low) + 1;
         low + ((u128::from(self.number()) * u128::from(span)) >> 64) as u32
+    }
+
+    /// Within a field's range.
+    pub fn of(&mut self, field: &Field) -> u32 {
+        self.within(field.low, field.high)
+    }
+
+    /// An end of a field's range.
+    pub fn end(&mut self, field: &Field) -> u32 {
+        self.pick(&[field.low, field.high])
+    }
+
+    /// Any seat.
+    pub fn seat(&mut self) -> u8 {
+        self.of(&SEAT) as u8
     }
 
     pub fn chance(&mut self, percent: u32) -> bool {

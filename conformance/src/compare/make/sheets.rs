@@ -3,6 +3,7 @@
 use super::random::Random;
 use super::records;
 use crate::compare::fields::{StateFields, PRESENT};
+use crate::layout::{ROW_COUNT, SEAT, TRUSTEES};
 
 /// How many seats shall count.
 #[derive(Clone, Copy, PartialEq)]
@@ -45,7 +46,7 @@ fn masks(rng: &mut Random, state: &StateFields, kind: u16) -> [u8; 2] {
     let needed = usize::from((4..=6).contains(&kind));
     let mut masks = [0; 2];
     for (level, mask) in masks.iter_mut().enumerate() {
-        let trustees = state.levels[level].clamp(1, 8);
+        let trustees = state.levels[level].clamp(TRUSTEES.low as u8, TRUSTEES.high as u8);
         let half = trustees / 2;
         let signed = if level != needed {
             rng.pick(&[0, half, trustees])
@@ -107,7 +108,7 @@ fn counted_rows(
 
 /// Rows that must not count: doubled ones, other lives, seats that are not present.
 fn add_noise(rng: &mut Random, state: &StateFields, rows: &mut Vec<(u8, u32)>) {
-    let room = 64 - rows.len();
+    let room = ROW_COUNT.high as usize - rows.len();
     let count = match rng.below(6) {
         0 | 1 => 0,
         2 => room,
@@ -125,9 +126,9 @@ fn add_noise(rng: &mut Random, state: &StateFields, rows: &mut Vec<(u8, u32)>) {
 
 fn idle_row(rng: &mut Random, state: &StateFields) -> (u8, u32) {
     let seat = if rng.chance(10) {
-        rng.pick(&[0, 31])
+        rng.end(&SEAT) as u8
     } else {
-        rng.below(32) as u8
+        rng.seat()
     };
     let listed = state.seats[usize::from(seat)];
     let life = match rng.below(4) {

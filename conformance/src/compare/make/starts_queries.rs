@@ -4,11 +4,12 @@ use super::arguments;
 use super::random::Random;
 use super::records;
 use crate::compare::fields::{StateFields, CERTIFIED, PRESENT};
+use crate::layout::RIGHT;
 
 pub fn start(rng: &mut Random, state: &StateFields) -> Vec<u8> {
     let fit = state.seats_of(&[CERTIFIED, PRESENT, PRESENT]);
     let seat = if fit.is_empty() || rng.chance(12) {
-        rng.below(32) as u8
+        rng.seat()
     } else {
         rng.pick(&fit)
     };
@@ -44,9 +45,11 @@ pub fn query(rng: &mut Random, state: &StateFields) -> Vec<u8> {
         9 => rng.pick(&[0, u32::MAX]),
         _ => state.day.saturating_add(rng.within(0, 3)),
     };
-    let held: Vec<u8> = (0..16).filter(|&right| rights >> right & 1 == 1).collect();
+    let held: Vec<u8> = (0..=RIGHT.high as u8)
+        .filter(|&right| rights >> right & 1 == 1)
+        .collect();
     let right = if held.is_empty() || rng.chance(20) {
-        rng.below(16) as u8
+        rng.of(&RIGHT) as u8
     } else {
         rng.pick(&held)
     };
@@ -59,7 +62,7 @@ pub fn bad_query(rng: &mut Random, state: &StateFields) -> Vec<u8> {
     while state.logins.iter().any(|row| row.login == login) {
         login = rng.any32();
     }
-    records::query(login, state.day, rng.below(16) as u8)
+    records::query(login, state.day, rng.of(&RIGHT) as u8)
 }
 
 /// The length of an output slice for `size` bytes: exact, longer and, with this chance in percent,

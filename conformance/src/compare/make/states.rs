@@ -7,6 +7,7 @@ use super::values;
 use crate::compare::fields::{
     Login, OwnFields, Proposal, Seat, StateFields, CERTIFIED, FREE, PRESENT, RETIRED,
 };
+use crate::layout::{LOGINS, MISSES, PROPOSALS, SEATS};
 use std::collections::BTreeSet;
 
 pub fn any_state(rng: &mut Random) -> StateFields {
@@ -25,17 +26,17 @@ fn set_seats(rng: &mut Random, state: &mut StateFields) {
     let present = match rng.below(8) {
         0 => rng.pick(&[1, 1, 2]),
         1 | 2 => rng.within(3, 5),
-        3 => 32,
+        3 => SEATS.most as u32,
         4 => rng.within(13, 17),
         5 => rng.within(2, 8),
-        _ => rng.within(1, 32),
+        _ => rng.within(1, SEATS.most as u32),
     } as usize;
     let others: &[u8] = if rng.chance(30) {
         &[FREE]
     } else {
         &[FREE, FREE, CERTIFIED, CERTIFIED, RETIRED]
     };
-    let mut order: Vec<usize> = (0..32).collect();
+    let mut order: Vec<usize> = (0..SEATS.most).collect();
     rng.shuffle(&mut order);
     for (place, &seat) in order.iter().enumerate() {
         let standing = if place < present {
@@ -71,11 +72,11 @@ fn set_minima(rng: &mut Random, state: &mut StateFields) {
 /// Proposals around the notice of 7 days, many with the same subject, since then the lowest cycle
 /// decides.
 fn set_proposals(rng: &mut Random, state: &mut StateFields) {
-    let most = state.cycle.min(16);
+    let most = state.cycle.min(PROPOSALS.most as u32);
     let count = match rng.below(6) {
         0 => 0,
         1 => most,
-        2 => most.min(15),
+        2 => most.min(PROPOSALS.most as u32 - 1),
         _ => rng.within(0, most),
     } as usize;
     let mut cycles = BTreeSet::new();
@@ -116,11 +117,12 @@ fn proposal(rng: &mut Random, state: &StateFields, cycle: u32) -> Proposal {
 }
 
 fn set_logins(rng: &mut Random, state: &mut StateFields) {
+    let most = LOGINS.most as u32;
     let count = match rng.below(6) {
         0 => 0,
-        1 => 64,
-        2 => rng.within(61, 64),
-        _ => rng.within(0, 64),
+        1 => most,
+        2 => rng.within(most - 3, most),
+        _ => rng.within(0, most),
     } as usize;
     let mut names = BTreeSet::new();
     while names.len() < count {
@@ -152,8 +154,8 @@ pub fn any_own(rng: &mut Random, state: &StateFields) -> OwnFields {
         .chance(35)
         .then(|| announcements::well_formed(rng, state));
     let misses = match rng.below(4) {
-        0 => rng.pick(&[9, 10]),
-        1 => rng.within(0, 10) as u8,
+        0 => MISSES.high as u8 - rng.pick(&[0, 1]),
+        1 => rng.of(&MISSES) as u8,
         _ => 0,
     };
     OwnFields {

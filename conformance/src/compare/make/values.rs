@@ -3,6 +3,7 @@
 
 use super::random::Random;
 use crate::compare::fields::StateFields;
+use crate::layout::{LOGIN, MARGIN, SILENCE, TRUSTEES};
 
 pub fn any_life(rng: &mut Random) -> u32 {
     match rng.below(8) {
@@ -15,22 +16,22 @@ pub fn any_life(rng: &mut Random) -> u32 {
 
 /// The highest margin of a quorum that `present` seats can reach.
 pub fn most_margin(present: usize) -> u32 {
-    ((present.max(1) - 1) / 2).min(7) as u32
+    ((present.max(1) - 1) / 2).min(MARGIN.high as usize) as u32
 }
 
 pub fn any_silence(rng: &mut Random) -> u16 {
     match rng.below(3) {
-        0 => rng.pick(&[1, 365]),
-        1 => rng.pick(&[2, 7, 30, 364]),
-        _ => rng.within(1, 365) as u16,
+        0 => rng.end(&SILENCE) as u16,
+        1 => rng.pick(&[2, 7, 30, SILENCE.high as u16 - 1]),
+        _ => rng.of(&SILENCE) as u16,
     }
 }
 
 pub fn any_level(rng: &mut Random) -> u8 {
     match rng.below(3) {
-        0 => rng.pick(&[1, 8]),
+        0 => rng.end(&TRUSTEES) as u8,
         1 => rng.pick(&[2, 3]),
-        _ => rng.within(1, 8) as u8,
+        _ => rng.of(&TRUSTEES) as u8,
     }
 }
 
@@ -68,7 +69,7 @@ pub fn any_rights(rng: &mut Random) -> u16 {
     match rng.below(4) {
         0 => rng.pick(&[1, 0x8000, 0xFFFF]),
         1 => 1 << rng.below(16),
-        _ => rng.within(1, 0xFFFF) as u16,
+        _ => rng.of(&LOGIN[2]) as u16,
     }
 }
 

@@ -23,11 +23,12 @@ struct Body {
 /// All modules of `paper` in one text, each as a block.
 pub fn with_switches(source: &Path, faults: &[Fault]) -> Result<String, String> {
     let root = read(&source.join("paper.rs"))?;
-    let mut sources = Vec::new();
-    for name in root.lines().filter_map(module) {
+    let modules = root.lines().filter_map(module);
+    let sources = modules.map(|name| {
         let text = read(&source.join("paper").join(format!("{name}.rs")))?;
-        sources.push(Source::new(name, &text));
-    }
+        Ok(Source::new(name, &text))
+    });
+    let mut sources = sources.collect::<Result<Vec<_>, String>>()?;
     for (index, fault) in faults.iter().enumerate() {
         for edit in &fault.edits {
             let changed = change(&mut sources, index + 1, edit);

@@ -18,6 +18,7 @@ pub struct Program {
 impl Program {
     /// The words; where they ask for help it is printed, and the program ends with this status.
     pub fn words(&self) -> Result<Vec<String>, ExitCode> {
+        end_quietly_where_nobody_reads();
         let words = std::env::args_os().skip(1);
         let words: Vec<String> = words.map(|w| w.to_string_lossy().into_owned()).collect();
         if words.iter().any(|word| word == "--help" || word == "-h") {
@@ -46,6 +47,22 @@ impl Program {
             false => Err(self.failed(archive::MISSING)),
         }
     }
+}
+
+/// Exit status of a program that could not print its result, since nobody reads it: what a shell
+/// gives for one that such a pipe ends. Not 0, which would say that all is well.
+const NOT_READ: i32 = 141;
+
+/// `println!` panics where whoever reads has closed the pipe.
+fn end_quietly_where_nobody_reads() {
+    let otherwise = std::panic::take_hook();
+    std::panic::set_hook(Box::new(move |panic| {
+        let message = panic.payload_as_str().unwrap_or_default();
+        if message.starts_with("failed printing to stdout: Broken pipe") {
+            std::process::exit(NOT_READ);
+        }
+        otherwise(panic);
+    }));
 }
 
 /// Prints bytes and gives the status. Whoever reads them may close the pipe at any time.

@@ -284,6 +284,22 @@ fn a_closed_pipe_ends_it_quietly() {
 }
 
 #[test]
+fn a_result_that_nobody_reads_is_no_success() {
+    let mut child = Command::new(COMPARE)
+        .args(["1", "1000"])
+        .stdout(Stdio::piped())
+        .stderr(Stdio::piped())
+        .spawn()
+        .unwrap();
+    drop(child.stdout.take());
+    let output = child.wait_with_output().unwrap();
+    assert_eq!(
+        (output.status.code(), output.stderr),
+        (Some(141), Vec::new())
+    );
+}
+
+#[test]
 fn records_without_words_prints_the_page() {
     let (status, text, errors) = records(&[], b"");
     assert_eq!((status, errors.as_str()), (0, ""));

@@ -158,7 +158,11 @@ fn keep(seed: u64, found: &Found) {
         let opened = OpenOptions::new().write(true).create_new(true).open(&file);
         match opened.and_then(|mut opened| opened.write_all(text.as_bytes())) {
             Err(error) if error.kind() == ErrorKind::AlreadyExists => {}
-            Ok(()) => return println!("kept in {file}: compare --replay {file} shows it again"),
+            Ok(()) => {
+                return println!(
+                    "kept in {file}: --replay {file} for SEED and COUNT shows it again"
+                )
+            }
             Err(error) => return println!("{file} is not written: {error}\n{text}"),
         }
     }

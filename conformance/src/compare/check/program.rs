@@ -69,16 +69,25 @@ pub fn shorten(second: &Second, program: &Path, input: &[u8]) -> Vec<u8> {
         records.pop();
     }
     // Two at a time first: a request of two records is whole or out of its place.
-    for width in [2, 1] {
-        for place in (0..records.len().saturating_sub(width - 1)).rev() {
-            let mut shorter = records.clone();
-            shorter.drain(place.min(records.len())..(place + width).min(records.len()));
-            if differs(&shorter) {
-                records = shorter;
-            }
+    let records = thinned(thinned(records, 2, &differs), 1, &differs);
+    records.concat()
+}
+
+/// Without each so many records in a row that are not needed for a difference.
+fn thinned(
+    mut records: Vec<Vec<u8>>,
+    width: usize,
+    differs: &dyn Fn(&[Vec<u8>]) -> bool,
+) -> Vec<Vec<u8>> {
+    for place in (0..records.len()).rev() {
+        let end = records.len().min(place + width);
+        let mut shorter = records.clone();
+        shorter.drain(place.min(end)..end);
+        if differs(&shorter) {
+            records = shorter;
         }
     }
-    records.concat()
+    records
 }
 
 /// The records of a stream; what does not fill its length is the last.

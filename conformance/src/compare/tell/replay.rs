@@ -53,8 +53,8 @@ fn replay_history(second: &'static Second, history: &History) -> Result<(), Stri
         }
         what
     })?;
-    let within = if tally.within { "" } else { "not " };
-    println!("\nThe starts are lawful and the bound on double voters is kept: {within}so");
+    let within = if tally.within { "yes" } else { "no" };
+    println!("\nThe starts are lawful and the bound on double voters is kept: {within}");
     Ok(())
 }
 

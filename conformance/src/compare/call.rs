@@ -66,6 +66,13 @@ pub fn possible_answers(call: usize) -> Vec<u32> {
     }
 }
 
+/// Whether a call of `CALLS` that answers `number` writes its output: "A call that starts, votes,
+/// performs, answers open or adds a miss writes a whole image", and a checkpoint call its checkpoint.
+pub fn writes(call: usize, number: u32) -> bool {
+    let adds_miss = call == 2 && (19..=21).contains(&number);
+    number == 0 || number == VOTED || adds_miss
+}
+
 impl Records {
     /// The place of the call in `CALLS`.
     pub fn index(&self) -> usize {
@@ -100,10 +107,9 @@ impl Records {
         }
     }
 
-    /// Whether a call that answers `number` writes its output: a query also for a miss.
+    /// Whether the call writes its output where it answers `number`.
     pub fn writes(&self, number: u32) -> bool {
-        let is_miss = matches!(self, Records::Query(..)) && (19..=21).contains(&number);
-        number == 0 || number == VOTED || is_miss
+        writes(self.index(), number)
     }
 }
 

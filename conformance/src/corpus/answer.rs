@@ -1,5 +1,6 @@
 //! Answers in words, as node-run prints them, and as the numbers that C gets.
 
+use crate::compare::call::VOTED;
 use std::fmt;
 
 #[derive(Clone, Copy, PartialEq, Eq, Debug)]
@@ -14,8 +15,6 @@ pub enum Answer {
 }
 
 use Answer::{Done, Given, No, Open, Started, Voted};
-
-pub const VOTED: u32 = 128;
 
 impl Answer {
     pub fn read(words: &[&str]) -> Option<Answer> {

@@ -1,10 +1,8 @@
-//! The four calls as C sees them, of the archive and of the second implementation.
+//! The four calls as C sees them, with the slices that the text gives them.
 
-use super::answer::{Answer, VOTED};
-use crate::{archive, paper};
-
-pub const CHECKPOINT_SIZE: usize = 1108;
-pub const IMAGE_SIZE: usize = 1139;
+use super::answer::Answer;
+use crate::compare::call::{possible_answers, writes, Calls, CALLS, VOTED};
+use crate::layout::{CHECKPOINT_SIZE, IMAGE_SIZE};
 
 #[derive(Clone, Copy, PartialEq, Eq, Debug)]
 pub enum Sort {
@@ -20,7 +18,7 @@ pub const SORTS: [Sort; 4] = [Start, Deliver, Query, Checkpoint];
 
 impl Sort {
     pub fn name(self) -> &'static str {
-        ["start", "deliver", "query", "checkpoint"][self as usize]
+        CALLS[self as usize]
     }
 
     /// How many records its request has in the text.
@@ -36,29 +34,23 @@ impl Sort {
         }
     }
 
-    /// "A call that starts, votes, performs, answers open or adds a miss writes a whole image".
+    /// Whether the call writes its output where it returns this number.
     pub fn writes(self, number: u32) -> bool {
-        match self {
-            Start | Checkpoint => number == 0,
-            Deliver => number == 0 || number == VOTED,
-            Query => number == 0 || (19..=21).contains(&number),
-        }
+        writes(self as usize, number)
     }
 
-    /// The answers that the call can give: "Start tries 1, 9 and 14; deliver 1 to 16; query 1, 3
-    /// and 17 to 21; checkpoint 1. Calls that write a slice also try 22".
+    /// The answers that the call can give.
     pub fn answers(self) -> Vec<Answer> {
-        let (good, no): (&[Answer], Vec<u32>) = match self {
-            Start => (&[Answer::Started], vec![1, 9, 14, 22]),
-            Deliver => (
-                &[Answer::Done, Answer::Voted],
-                (1..=16).chain([22]).collect(),
-            ),
-            Query => (&[Answer::Open], vec![1, 3, 17, 18, 19, 20, 21, 22]),
-            Checkpoint => (&[Answer::Given], vec![1, 22]),
+        let good = [Answer::Started, Answer::Done, Answer::Open, Answer::Given][self as usize];
+        let answer = |number| match number {
+            0 => good,
+            VOTED => Answer::Voted,
+            _ => Answer::No(number),
         };
-        let refusals = no.into_iter().map(Answer::No);
-        good.iter().copied().chain(refusals).collect()
+        possible_answers(self as usize)
+            .into_iter()
+            .map(answer)
+            .collect()
     }
 
     /// The number for a malformed slice: 2 for the sheet, 1 for each other.
@@ -96,47 +88,12 @@ impl Call {
     }
 }
 
-/// Image, announcement, sheet and output slice.
-type OfThree = fn(&[u8], &[u8], &[u8], &mut [u8]) -> u32;
-
-/// One implementation of the four calls.
-pub struct Implementation {
-    pub name: &'static str,
-    start: fn(&[u8], &[u8], &mut [u8]) -> u32,
-    deliver: OfThree,
-    query: fn(&[u8], &[u8], &mut [u8]) -> u32,
-    checkpoint: fn(&[u8], &mut [u8]) -> u32,
-}
-
-pub const ARCHIVE: Implementation = Implementation {
-    name: "the archive",
-    start: archive::node_start,
-    deliver: archive::node_deliver,
-    query: archive::node_query,
-    checkpoint: archive::node_checkpoint,
-};
-
-pub const SECOND: Implementation = Implementation {
-    name: "the second implementation",
-    start: paper::image::node_start,
-    deliver: paper::image::node_deliver,
-    query: paper::image::node_query,
-    checkpoint: paper::image::node_checkpoint,
-};
-
-impl Implementation {
-    /// The slices are as many as the call has.
-    pub fn call(&self, sort: Sort, slices: &[&[u8]], out: &mut [u8]) -> u32 {
-        match sort {
-            Start => (self.start)(slices[0], slices[1], out),
-            Deliver => (self.deliver)(slices[0], slices[1], slices[2], out),
-            Query => (self.query)(slices[0], slices[1], out),
-            Checkpoint => (self.checkpoint)(slices[0], out),
-        }
+/// Makes a call; the slices are as many as it has.
+pub fn make(by: &Calls, sort: Sort, slices: &[&[u8]], out: &mut [u8]) -> u32 {
+    match sort {
+        Start => (by.start)(slices[0], slices[1], out),
+        Deliver => (by.deliver)(slices[0], slices[1], slices[2], out),
+        Query => (by.query)(slices[0], slices[1], out),
+        Checkpoint => (by.checkpoint)(slices[0], out),
     }
-}
-
-/// node-run by the second implementation.
-pub fn second_run(input: &[u8]) -> Vec<u8> {
-    paper::run::node_run(input)
 }

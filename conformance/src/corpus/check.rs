@@ -1,15 +1,17 @@
 //! A file's requests through all three, and what is derived from them through both that are called.
 
 use super::answer::Answer;
-use super::call::{second_run, Call, Sort, ARCHIVE, SECOND};
+use super::call::{Call, Sort};
 use super::file::{By, Request, Run};
 use super::make::{Desk, Made, Slices};
 use super::reached::Reached;
 use super::sweep;
 use super::walk::{walk, Counts, Found};
-use std::io::{self, Write};
-use std::path::{Path, PathBuf};
-use std::process::{Command, Stdio};
+use crate::compare::call::ARCHIVE;
+use crate::compare::program::printed;
+use crate::compare::PAPER;
+use std::io;
+use std::path::PathBuf;
 
 /// The most that is shown of a line that was printed.
 const MOST_SHOWN: usize = 80;
@@ -114,7 +116,7 @@ impl Checker {
     /// Both return the number, and write the same.
     fn both(&mut self, call: &Call, on: Slices, wanted: u32) -> Result<Made, String> {
         let mut all = Vec::new();
-        for by in [&ARCHIVE, &SECOND] {
+        for by in [&ARCHIVE, &PAPER.calls] {
             let of = |what: String| format!("{} {what}", by.name);
             let made = self.desk.make(by, call, on).map_err(of)?;
             if made.number != wanted {
@@ -134,7 +136,7 @@ impl Checker {
         let line = run.requests.last().map_or(0, |request| request.line);
         let printed = printed(&self.node_run, &input).map_err(|what| (line, what))?;
         run.compare("node-run", &printed, &wanted)?;
-        run.compare(SECOND.name, &second_run(&input), &wanted)
+        run.compare(PAPER.calls.name, &(PAPER.node_run)(&input), &wanted)
     }
 }
 
@@ -183,26 +185,5 @@ impl Request {
             By::Run { ordinal, cycle } => Some(format!("{ordinal} {} {cycle}\n", self.answer)),
             By::Call { .. } => None,
         }
-    }
-}
-
-/// What the program prints on an input.
-fn printed(program: &Path, input: &[u8]) -> Result<Vec<u8>, String> {
-    let failed = |error: io::Error| format!("{}: {error}", program.display());
-    let mut child = Command::new(program)
-        .stdin(Stdio::piped())
-        .stdout(Stdio::piped())
-        .spawn()
-        .map_err(failed)?;
-    let mut stdin = child.stdin.take().ok_or("no standard input")?;
-    let bytes = input.to_vec();
-    // Written apart, so that neither side waits for the other. A program that ends early closes the
-    // pipe: no error.
-    let writer = std::thread::spawn(move || drop(stdin.write_all(&bytes)));
-    let output = child.wait_with_output().map_err(failed)?;
-    writer.join().map_err(|_| "the writer panicked")?;
-    match output.status.success() {
-        true => Ok(output.stdout),
-        false => Err(format!("{} ends with {}", program.display(), output.status)),
     }
 }

@@ -1,8 +1,9 @@
 //! What the corpus gives to others: node-run's input and output, and the calls for C.
 
-use super::call::{Call, SECOND};
+use super::call::{self, Call};
 use super::file::Run;
 use super::walk::{walk, Found};
+use crate::compare::PAPER;
 
 /// The only run of a file.
 pub fn only_run(runs: &[Run]) -> Result<&Run, Found> {
@@ -37,6 +38,6 @@ fn push(out: &mut Vec<u8>, call: &Call) {
 fn image_after(call: &Call, room: usize) -> Option<Vec<u8>> {
     let mut image = vec![0; room];
     let slices: Vec<&[u8]> = call.slices.iter().map(Vec::as_slice).collect();
-    let number = SECOND.call(call.sort, &slices, &mut image);
+    let number = call::make(&PAPER.calls, call.sort, &slices, &mut image);
     call.sort.writes(number).then_some(image)
 }

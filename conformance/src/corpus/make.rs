@@ -1,9 +1,10 @@
 //! One call on guarded slices. After it: no input slice and no byte around a slice was changed, and
 //! the output slice was written exactly where the number says so.
 
-use super::call::{Call, Implementation};
+use super::call::{self, Call};
 use super::memory::fenced;
 use super::written;
+use crate::compare::call::Calls;
 use std::io;
 
 /// The bytes before each slice, and behind it where it doesn't end with its memory.
@@ -37,7 +38,7 @@ impl Desk {
         Ok(Desk { memories, calls: 0 })
     }
 
-    pub fn make(&mut self, by: &Implementation, call: &Call, on: Slices) -> Result<Made, String> {
+    pub fn make(&mut self, by: &Calls, call: &Call, on: Slices) -> Result<Made, String> {
         self.place(call, on);
         let number = self.call(by, call, on);
         self.calls += 1;
@@ -64,7 +65,7 @@ impl Desk {
         Ok(())
     }
 
-    fn call(&mut self, by: &Implementation, call: &Call, on: Slices) -> u32 {
+    fn call(&mut self, by: &Calls, call: &Call, on: Slices) -> u32 {
         let [inputs @ .., output] = &mut self.memories;
         let slices: Vec<&[u8]> = inputs
             .iter()
@@ -72,7 +73,7 @@ impl Desk {
             .map(|(memory, slice)| within(memory, slice.len(), on.gap))
             .collect();
         let end = output.len() - on.gap;
-        by.call(call.sort, &slices, &mut output[end - on.room..end])
+        call::make(by, call.sort, &slices, &mut output[end - on.room..end])
     }
 
     /// What was written; "longer ones keep their tail".

@@ -3,8 +3,9 @@
 //! record, checkpoint or image"), 1 before 2 before 22, and 22 for every output slice that is too
 //! short.
 
-use super::call::{Call, Sort, CHECKPOINT_SIZE, IMAGE_SIZE};
+use super::call::{Call, Sort};
 use super::make::{Slices, GUARD};
+use crate::layout::{self, CHECKPOINT_SIZE, IMAGE_SIZE};
 use crate::text;
 
 /// What is done with a derived call and the number it is to return; an error ends the sweep.
@@ -147,8 +148,8 @@ pub fn as_vote(call: &Call, number: u32, each: Each) -> Swept {
     }
     let is_good = number != 1 && announcement[4..8] == image[4..8];
     let mut image = image.clone();
-    image[1113] = 1;
-    image[1114..1138].copy_from_slice(announcement);
+    image[layout::VOTED_AT] = 1;
+    image[layout::VOTE].copy_from_slice(announcement);
     image_in_calls(&image, is_good, each)
 }
 

@@ -3,6 +3,7 @@
 use super::answer::Answer;
 use super::call::{Call, Sort};
 use super::file::{By, Request, Run};
+use crate::layout::{least_size, CHECKPOINT_KIND, QUERY_KIND, SHEET_KIND, START_KIND};
 
 /// Makes a call with an output slice of some length, and gives the image that it wrote.
 pub type Each<'a> = &'a mut dyn FnMut(&Request, &Call, usize) -> Result<Option<Vec<u8>>, String>;
@@ -112,15 +113,11 @@ fn framed_kind(record: &[u8]) -> Option<u16> {
     };
     let size = 2 + usize::from(u16::from_le_bytes([low, high]));
     let kind = u16::from_le_bytes([kind_low, kind_high]);
-    let least = match kind {
-        1..=9 => 24,
-        16 => 1108,
-        18 => 7,
-        19 => 9,
-        20 => 13,
-        _ => return None,
-    };
-    (record.len() == size && size >= least).then_some(kind)
+    let is_placed = matches!(
+        kind,
+        1..=9 | CHECKPOINT_KIND | SHEET_KIND | START_KIND | QUERY_KIND
+    );
+    (is_placed && record.len() == size && size >= least_size(kind)).then_some(kind)
 }
 
 /// "the node's cycle after it (0 if none)"

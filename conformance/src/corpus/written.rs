@@ -1,13 +1,11 @@
 //! What a call is to write, as far as the papers give it by itself: all of it but the tables of the
 //! state after a performed action. These are compared between the implementations.
 
-use super::answer::VOTED;
-use super::call::{Call, Sort, CHECKPOINT_SIZE, IMAGE_SIZE};
+use super::call::{Call, Sort};
+use crate::compare::call::VOTED;
+use crate::layout::{CHECKPOINT_SIZE, IMAGE_SIZE, MISSES_AT, VOTE, VOTED_AT};
 
 const OWN_AT: usize = CHECKPOINT_SIZE;
-const VOTED_AT: usize = 1113;
-const VOTE_AT: usize = 1114;
-const MISSES_AT: usize = 1138;
 
 pub fn check(call: &Call, number: u32, written: &[u8]) -> Result<(), String> {
     let sizes: Vec<usize> = call.slices.iter().map(Vec::len).collect();
@@ -37,7 +35,7 @@ fn expected(call: &Call, number: u32, written: &[u8]) -> Vec<u8> {
         }
         (Sort::Deliver, VOTED) => {
             out[VOTED_AT] = 1;
-            out[VOTE_AT..MISSES_AT].copy_from_slice(&call.slices[1]);
+            out[VOTE].copy_from_slice(&call.slices[1]);
         }
         (Sort::Deliver, _) => performed(&mut out, &call.slices[1], written),
         // "19, 20 and 21 add a miss; open sets misses to 0"

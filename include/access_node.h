@@ -1,4 +1,4 @@
-/* The access node: four calls on byte slices and numbers.
+/* The access node: calls on byte slices and numbers.
  *
  * docs/FORMATS.md has the records byte by byte and every refusal with what helps;
  * docs/OPERATORS.md what the firmware must do and must never do.
@@ -20,17 +20,18 @@
  * power cannot cut in half; only then act on the answer. Above all a vote is sent only after the
  * image that holds it is stored: a node that forgets its vote can vote again in the same cycle.
  *
- * Return value. The low 8 bits are the answer: ACCESS_NODE_OK, ACCESS_NODE_VOTED or the number of
- * the refusal. The bits above are a count; the calls of this edition give none, so they are 0. The
- * rules are tried in this order: 1, 2, 22, then the others from the lowest number up.
+ * Return value. The low 8 bits are the answer (ACCESS_NODE_ANSWER): ACCESS_NODE_OK,
+ * ACCESS_NODE_VOTED or the number of the refusal. The bits above are a count (ACCESS_NODE_COUNT):
+ * the lines of a page that is given; 0 for every refusal and for the other calls. The rules are tried
+ * in this order: 1, 2, 22 (a page: 23), then the others from the lowest number up.
  *
- * Output. A call writes a whole image or checkpoint to the front of its output slice, or leaves the
- * slice as it was. A longer slice keeps its tail.
+ * Output. A call writes a whole image, checkpoint or page to the front of its output slice, or leaves
+ * the slice as it was. A longer slice keeps its tail.
  *
  * Threads. The library has no variables of its own: calls on different slices may run at once.
  *
  * Work. Each call returns for every input. No loop runs over more than a checkpoint's 1,108 bytes,
- * 64 rows, 32 seats or 16 proposals; docs/PERFORMANCE.md has the instructions of each call.
+ * 64 rows, 32 seats or 16 proposals, or 64 lines of 47 characters; docs/PERFORMANCE.md has the instructions of each call.
  *
  * Stack. ACCESS_NODE_STACK_* is the most that a call was measured to use (tests/stack_use.c), in
  * bytes, rounded up with at least 512 to spare.
@@ -50,8 +51,9 @@
 extern "C" {
 #endif
 
-/* Which records and rules this header is for. Images of two editions are not to be mixed. */
-#define ACCESS_NODE_EDITION 1
+/* Which calls, records and rules this header is for. Images of two editions are not to be mixed, but for
+ * those of 1 and 2: edition 2 adds node_page and changes nothing else. */
+#define ACCESS_NODE_EDITION 2
 
 /* Sizes of whole records. A sheet has 0 to ACCESS_NODE_MOST_ROWS rows. */
 #define ACCESS_NODE_CHECKPOINT_SIZE 1108
@@ -61,6 +63,11 @@ extern "C" {
 #define ACCESS_NODE_SHEET_SIZE(rows) (7 + 5 * (rows))
 #define ACCESS_NODE_MOST_ROWS 64
 #define ACCESS_NODE_QUERY_SIZE 13
+
+/* A page has a line for each login, of 46 characters and a line feed. */
+#define ACCESS_NODE_LINE_SIZE 47
+#define ACCESS_NODE_MOST_LOGINS 64
+#define ACCESS_NODE_PAGE_SIZE(lines) (ACCESS_NODE_LINE_SIZE * (lines))
 
 /* The kinds of records. Those of announcements are the nine actions. */
 #define ACCESS_NODE_KIND_PROPOSE 1
@@ -78,7 +85,7 @@ extern "C" {
 #define ACCESS_NODE_KIND_QUERY 20
 
 /* Answers. */
-#define ACCESS_NODE_OK 0             /* started, performed, open, or the checkpoint is given */
+#define ACCESS_NODE_OK 0             /* started, performed, open; the checkpoint or page is given */
 #define ACCESS_NODE_MALFORMED 1      /* an input slice other than the sheet is malformed */
 #define ACCESS_NODE_BAD_SHEET 2      /* the sheet is malformed */
 #define ACCESS_NODE_HALTED 3         /* the node's own seat is retired */
@@ -100,7 +107,8 @@ extern "C" {
 #define ACCESS_NODE_NOT_LISTED 19    /* no such login; one miss is added */
 #define ACCESS_NODE_ENDED 20         /* the login's last day is over; one miss is added */
 #define ACCESS_NODE_RIGHT_NOT_HELD 21 /* the login has no such right; one miss is added */
-#define ACCESS_NODE_NO_ROOM 22       /* the output slice is too short */
+#define ACCESS_NODE_NO_ROOM 22       /* the output slice is too short for the image or checkpoint */
+#define ACCESS_NODE_NO_PAGE_ROOM 23  /* the output slice is too short for the page */
 #define ACCESS_NODE_VOTED 128        /* the node voted for the announcement */
 
 /* The two parts of what a call returned. */
@@ -141,6 +149,14 @@ uint32_t node_query(const uint8_t *image, size_t image_length,
 #define ACCESS_NODE_STACK_CHECKPOINT 4096
 uint32_t node_checkpoint(const uint8_t *image, size_t image_length,
                          uint8_t *checkpoint_out, size_t checkpoint_out_length);
+
+/* Gives the access page: the login list as text, with what a query would meet on the given day, a
+ * count from 1970-01-01. A slice of ACCESS_NODE_PAGE_SIZE(ACCESS_NODE_MOST_LOGINS) bytes holds every
+ * page; there is no zero byte behind it. Halted and locked nodes give their page too.
+ * Refusals: 1, 23. Writes the page with 0, and no image; ACCESS_NODE_COUNT is its number of lines. */
+#define ACCESS_NODE_STACK_PAGE 8192
+uint32_t node_page(const uint8_t *image, size_t image_length, uint32_t day,
+                   uint8_t *page_out, size_t page_out_length);
 
 #ifdef __cplusplus
 }

@@ -36,7 +36,7 @@ use Rattle.node.proofs.Query.{query-comes-to}
 use Rattle.node.proofs.Numbers.{deliver-numbers, query-numbers}
 use Rattle.node_c.specs.Calls.{delivered, asked}
 use Rattle.agreement.specs.History.{History, Moment, Outcome, run, answer}
-use Rattle.agreement.specs.Claims.{Performed, Opened, PerformedIn, Park, EquivocationBound, Agreement, Ended, Demand3, AlwaysWellFormed}
+use Rattle.agreement.specs.Claims.{Performed, Opened, PerformedIn, HeldIn, Park, EquivocationBound, Agreement, Ended, Demand3, AlwaysWellFormed}
 use Rattle.agreement.specs.Claims.{ImagesReadBack}
 use Rattle.agreement.specs.Chain.{Step, Reached, AlwaysReached}
 use Rattle.agreement.proofs.Chain.{GrantBetween, agree, days, granted-since}
@@ -154,11 +154,14 @@ module _ (first : List ℕ) (calls : History) (park : Park first calls) where
             let least = quorums-overlap s (rowsOf (x .sheet)) (rowsOf (y .sheet)) (quorate a x) (quorate b y) in
             absurd (omega arith)
 
-    agreement : Agreement calls
-    agreement n k c =
+    pub same-state : (n k : HeldIn calls) → n .node .state .cycle ≡ k .node .state .cycle → n .node .state ≡ k .node .state
+    same-state n k c =
         let N = always first calls park (n .moment) (n .inList) .1 .held (n .host) (n .node) (n .held) .reach in
         let K = always first calls park (k .moment) (k .inList) .1 .held (k .host) (k .node) (k .held) .reach in
-        ap checkpointBytes (agree (readCheckpoint first .state) Taken one advances N K (ap (λ (x : Cycle). x .0) c))
+        agree (readCheckpoint first .state) Taken one advances N K (ap (λ (x : Cycle). x .0) c)
+
+    agreement : Agreement calls
+    agreement n k c = ap checkpointBytes (same-state n k c)
 
     ended : Ended calls
     ended e o ends late = found (granted-since (readCheckpoint first .state) Taken one advances s a login S (taken e) ends N later listed)

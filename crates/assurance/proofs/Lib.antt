@@ -13,3 +13,4 @@ pub mod Notice
 pub mod Provenance
 pub mod Lives
 pub mod Removed
+pub mod AccessPage

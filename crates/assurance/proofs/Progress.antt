@@ -20,7 +20,7 @@ use Rattle.actions.specs.Claims.{Admitted}
 use Rattle.node.specs.declared.Node.{Node}
 use Rattle.node.specs.declared.DeliverReply.{DeliverReply}
 use Rattle.node.specs.declared.DeliverAnswer.the-variants.{Voted}
-use Rattle.node.proofs.Deliver.{same-bytes}
+use Rattle.binary.proofs.Same.{same-bytes}
 use Rattle.verdicts.specs.Own.{heldSeat, votedOtherwise}
 use Rattle.verdicts.specs.Verdicts.{deliverRefusal, showsQuorum, voteRefusal}
 use Rattle.node.specs.Deliver.{deliverRead, deliverOf}

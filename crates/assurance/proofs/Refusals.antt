@@ -4,22 +4,26 @@ use mathlib.Core.Logic.{_≢_, inl, inr}
 use mathlib.Core.Bool.{Bool, true, false, cond}
 use mathlib.Core.List.{List}
 use mathlib.Core.Option.{Option, none, some, Option·some-injective}
-use Prim.Native.Nat.{ℕ}
+use Prim.Native.Nat.{ℕ, _%_}
 use native.Mathlib.Omega.{arith}
 use lib.Dec.{eqb, leb}
 use lib.ListN.{length, take}
 use borrow.Author.Tests.{eqb-true, eq-eqb, ne-eqb}
 use Rattle.lists.proofs.Tests.{clash, cond-cases}
 use Rattle.binary.specs.Number.{overwrite}
+use Rattle.state.specs.declared.Day.{Day}
+use Rattle.page.specs.Page.{lineCount, pageText}
 use Rattle.node.specs.declared.Node.{Node}
 use Rattle.node.specs.declared.StartReply.{StartReply}
 use Rattle.node.specs.declared.DeliverReply.{DeliverReply}
 use Rattle.node.specs.declared.QueryReply.{QueryReply}
 use Rattle.node.specs.declared.CheckpointAnswer.{CheckpointAnswer}
 use Rattle.node.specs.declared.CheckpointAnswer.the-variants.{Given, Refused}
+use Rattle.node.specs.declared.PageAnswer.the-variants as Page
 use Rattle.node.specs.Answers.{startNumber, deliverNumber, queryNumber, checkpointNumber}
 use Rattle.checkpoint.specs.Layout.{checkpointSize}
 use Rattle.node.specs.Checkpoint.{checkpointOf, checkpointSlice}
+use Rattle.node.specs.Page.{pageFits, pageOf, pageSlice}
 use Rattle.node.specs.Claims.{Starting, Delivery, Asking, refuses, starts, votes, performs, misses, opens}
 use Rattle.node.proofs.Start.{start-comes-to}
 use Rattle.node.proofs.Deliver.{deliver-comes-to}
@@ -28,8 +32,8 @@ use Rattle.node.proofs.Numbers.{start-numbers, deliver-numbers, query-numbers}
 use Rattle.image.specs.Layout.{imageSize}
 use Rattle.image.specs.Image.{imageBytes, isImage, readImage}
 use Rattle.node_c.specs.Calls.{HandedBack, started, delivered, asked, Returned, return, onImage, nodeStart, nodeDeliver, nodeQuery, nodeCheckpoint}
-use Rattle.node_c.specs.Claims.{Writes, Returning, no-room, writes, leaves}
-use Rattle.node_c.proofs.Calls.{calls-return, writes-to, leaves-to, image-ok}
+use Rattle.node_c.specs.Claims.{Writes, Returning, no-room, writes, leaves, PageReturning, malformed, too-short, given}
+use Rattle.node_c.proofs.Calls.{page-returns, calls-return, writes-to, leaves-to, image-ok}
 use Rattle.agreement.specs.History.{byValue, throughC, start, deliver, query, checkpoint, Cluster, Outcome, onNode, keepImage, onHeldImage}
 use Rattle.agreement.specs.History.{keepCheckpoint, checkpointNode, checkpointImage, run}
 use Rattle.agreement.proofs.Calls.{front}
@@ -147,6 +151,21 @@ unfolding nodeCheckpoint
 image-checkpoint-kept image out = cond-cases (KeepsSlice out) (readImage image .ok) (λ e h. checkpoint-kept _ out (λ g. h .0 (ap checkpointNumber g)))
     (λ e h. refl)
 
+-- a refused page
+image-page-kept : (image : List ℕ) (d : ℕ) (out : List ℕ) (x : Returned) → PageReturning image d out x → x .number % 256 ≢ 0 → x .slice ≡ out
+image-page-kept image d out x (malformed e q) h = ap (λ (y : Returned). y .slice) q
+image-page-kept image d out x (too-short e l q) h = ap (λ (y : Returned). y .slice) q
+image-page-kept image d out x (given e l q) h = let z = ap (λ (y : Returned). y .number) q in absurd (h (omega arith))
+
+page-kept : (n : Node) (d : Day) (out : List ℕ) (k : ℕ) → pageOf n out .answer ≡ Page.Refused k → pageSlice n d out ≡ out
+unfolding pageOf pageSlice
+page-kept n d out k = by (pageFits n out)
+  where
+    by : (b : Bool) → cond b (Page.Given (lineCount (n .state))) (Page.Refused 23) ≡ Page.Refused k
+        → cond b (overwrite (pageText (n .state) d) out) out ≡ out
+    by true e = clash (cc)
+    by false e = refl
+
 -- nor of one through C
 image-start-adds-none : (cb sb out : List ℕ) → ¬ AddsMiss (return (started cb sb) out .number)
 image-start-adds-none cb sb out m = start-adds-none cb sb _ (start-comes-to cb sb) (returned-miss _ out _ (calls-return (started cb sb) out) m .adds)
@@ -165,6 +184,8 @@ slices-kept = record {
   miss = λ image qb out m. query-image image qb out (image-miss (asked qb) image out m);
   checkpoint = image-checkpoint-kept;
   checkpoint-by-value = λ n out k e. checkpoint-kept n out (λ g. let z : _≡_ {A = ℕ} 0 1 = cc in omega arith);
+  page = λ image d out h. image-page-kept image d out _ (page-returns image d out) h;
+  page-by-value = page-kept;
 }
 
 -- ---- what hosts hold

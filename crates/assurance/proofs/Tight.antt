@@ -18,8 +18,8 @@ use Rattle.records.specs.Sheet.{rowsOf, counts, countedSeats, countedOnBoth}
 use Rattle.records.proofs.Counts.{counts-once}
 use Rattle.checkpoint.specs.Checkpoint.{checkpointBytes, isCheckpoint}
 use Rattle.node.specs.declared.Node.{Node}
-use Rattle.verdicts.specs.Own.{isSameBytes}
-use Rattle.node.proofs.Deliver.{same-bytes}
+use Rattle.binary.specs.Number.{isSameBytes}
+use Rattle.binary.proofs.Same.{same-bytes}
 use Rattle.agreement.specs.History.{Host, byValue, throughC, Call, start, deliver, query, checkpoint, History, Cluster, empty, nodeAt, Moment}
 use Rattle.agreement.specs.History.{momentsFrom, moments, answer, after}
 use Rattle.agreement.specs.Claims.{_∈_, HeldIn, Agreement, runAll}

@@ -24,8 +24,9 @@ use Rattle.node.specs.declared.StartReply.{StartReply}
 use Rattle.node.specs.declared.DeliverAnswer.{DeliverAnswer}
 use Rattle.node.specs.declared.DeliverAnswer.the-variants.{Done, Voted, Refused}
 use Rattle.node.specs.Answers.{startNumber, deliverNumber}
-use Rattle.verdicts.specs.Own.{isSameBytes, votedOtherwise, canVote}
-use Rattle.node.proofs.Deliver.{bytes-same}
+use Rattle.binary.specs.Number.{isSameBytes}
+use Rattle.verdicts.specs.Own.{votedOtherwise, canVote}
+use Rattle.binary.proofs.Same.{bytes-same}
 use Rattle.refusals.specs.Refusals.{refuseIf, _orElse_}
 use Rattle.node.specs.Deliver as Deliver
 use Rattle.verdicts.specs.Verdicts.{deliverRefusal, showsQuorum, voteRefusal}

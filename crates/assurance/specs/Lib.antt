@@ -8,3 +8,4 @@ pub mod Notice
 pub mod Provenance
 pub mod Lives
 pub mod Removed
+pub mod AccessPage

@@ -5,14 +5,17 @@ use mathlib.Core.Logic.{_≢_}
 use mathlib.Core.Bool.{true}
 use mathlib.Core.List.{List}
 use mathlib.Core.Option.{some}
-use Prim.Native.Nat.{ℕ, _+_, _≤_}
+use Prim.Native.Nat.{ℕ, _+_, _%_, _≤_}
 use Rattle.binary.specs.Number.{overwrite}
+use Rattle.state.specs.declared.Day.{Day}
 use Rattle.node.specs.declared.Node.{Node}
 use Rattle.node.specs.declared.CheckpointAnswer.the-variants.{Refused}
+use Rattle.node.specs.declared.PageAnswer.the-variants as Page
 use Rattle.node.specs.Checkpoint.{checkpointOf, checkpointSlice}
+use Rattle.node.specs.Page.{pageOf, pageSlice}
 use Rattle.node.specs.Query.{withMissCount}
 use Rattle.image.specs.Image.{imageBytes, isImage, readImage}
-use Rattle.node_c.specs.Calls.{Returned, nodeStart, nodeDeliver, nodeQuery, nodeCheckpoint}
+use Rattle.node_c.specs.Calls.{Returned, nodeStart, nodeDeliver, nodeQuery, nodeCheckpoint, nodePage}
 use Rattle.agreement.specs.History.{byValue, throughC, Call, start, deliver, query, checkpoint, Cluster, run}
 
 -- k is the number of a refusal: 0 is started, done, open or given, and 128 is voted
@@ -85,3 +88,6 @@ pub record SlicesKept : Type 0 where
       → nodeQuery image qb out .slice ≡ overwrite (imageBytes (oneMissMore (readImage image .node))) out
   pub checkpoint : (image out : List ℕ) → KeepsSlice out (nodeCheckpoint image out)
   pub checkpoint-by-value : (n : Node) (out : List ℕ) (k : ℕ) → checkpointOf n out .answer ≡ Refused k → checkpointSlice n out ≡ out
+  -- what a page returns has its answer in the low 8 bits
+  pub page : (image : List ℕ) (d : ℕ) (out : List ℕ) → nodePage image d out .number % 256 ≢ 0 → nodePage image d out .slice ≡ out
+  pub page-by-value : (n : Node) (given : Day) (out : List ℕ) (k : ℕ) → pageOf n out .answer ≡ Page.Refused k → pageSlice n given out ≡ out

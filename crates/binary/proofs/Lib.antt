@@ -6,3 +6,4 @@ pub mod Rows
 pub mod Copies
 pub mod Frames
 pub mod Slices
+pub mod Same

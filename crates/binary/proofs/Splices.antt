@@ -3,7 +3,7 @@ use Prim.Native.Nat.{ℕ, suc, _+_, _≤_}
 use native.Mathlib.Nat.{add-zero, zero-add, add-assoc, add-suc}
 use native.Mathlib.Omega.{arith}
 use native.Mathlib.Numerals.{add-one}
-use mathlib.Core.Path.{_≡_, refl, sym, ap, _∙_}
+use mathlib.Core.Path.{_≡_, refl, sym, ap, subst, _∙_}
 use mathlib.Core.List.{List, [], _∷_, _++_, append-assoc}
 use lib.ListN.{length, set, take, drop, length-append, take-append-drop}
 use lib.Seq.{length-take-le, sets, sets-eq, take-at, drop-append-add, drop-drop}
@@ -81,6 +81,17 @@ next-put d₀ d d′ v w at k n h e l b = record {
 -- all is written, from the place where it starts
 pub all-put : (d₀ d v u : List ℕ) (at k : ℕ) → Wrote d₀ at k v d → v ≡ u → d ≡ splice d₀ at u
 all-put d₀ d v u at k h e = h .is ∙ ap (splice d₀ at) e
+
+-- the same for writes that answer where they end, r
+pub put-first : (d₀ d v : List ℕ) (at r : ℕ) → r ≡ at + length v → d ≡ splice d₀ at v → Wrote d₀ at r v d
+put-first d₀ d v at r e w = record { is = w; ends = sym e }
+
+pub put-next : (d₀ d d′ v w : List ℕ) (at k r : ℕ) → Wrote d₀ at k v d → k ≤ length d₀ → r ≡ k + length w → d′ ≡ splice d k w
+    → Wrote d₀ at r (v ++ w) d′
+put-next d₀ d d′ v w at k r h b e p = subst (λ (n : ℕ). Wrote d₀ at n (v ++ w) d′) (sym e) (next-put d₀ d d′ v w at k (length w) h p refl b)
+
+pub put-last : (d₀ d v u : List ℕ) (at r : ℕ) → Wrote d₀ at r v d → v ≡ u → (r ≡ at + length u) × (d ≡ splice d₀ at u)
+put-last d₀ d v u at r h e = (sym (h .ends) ∙ ap (λ (l : List ℕ). at + length l) e, all-put d₀ d v u at r h e)
 
 -- fields one after the other, as a run of writes joins them and as a codec does
 abbrev pub lefts : List ℕ → List (List ℕ) → List ℕ

@@ -1,6 +1,6 @@
 -- "Integers are little-endian."
 use Prim.Native.Nat.{ℕ, zero, suc, _+_, _*_, _/_, _%_, _<_}
-use mathlib.Core.Bool.{Bool, _&&_}
+use mathlib.Core.Bool.{Bool, true, false, _&&_}
 use mathlib.Core.List.{List, [], _∷_, _++_}
 use lib.Dec.{eqb}
 use lib.ListN.{length, getD, drop}
@@ -32,6 +32,13 @@ byteAt at b = getD b at 0
 -- "unused ones zero": every byte of b from index `at` on is zero
 unfoldable pub isZeroFrom : ℕ → List ℕ → Bool
 isZeroFrom at b = all (λ x. eqb x 0) (drop at b)
+
+-- the same bytes
+unfoldable pub isSameBytes : List ℕ → List ℕ → Bool
+isSameBytes [] [] = true
+isSameBytes [] (y ∷ ys) = false
+isSameBytes (x ∷ xs) [] = false
+isSameBytes (x ∷ xs) (y ∷ ys) = eqb x y && isSameBytes xs ys
 
 -- "A record is a 2-byte length (of what follows it), a 2-byte kind, a body.": b is one record with this length field
 abbrev pub isFramed : ℕ → List ℕ → Bool

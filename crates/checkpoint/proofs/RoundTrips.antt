@@ -60,11 +60,11 @@ module _ (s : State) (h : Fits s) where
 
   pub checkpoint-length : length (checkpointBytes s) ≡ checkpointSize
   unfolding checkpointBytes
-  checkpoint-length = checkpoint-laws .long (framing, counted s) record-fits
+  checkpoint-length = checkpoint-laws .reads .long (framing, counted s) record-fits
 
   record-read-back : checkpoint .decode (checkpointBytes s) ≡ (framing, counted s)
   unfolding checkpointBytes
-  record-read-back = read-back checkpoint-laws (framing, counted s) record-fits
+  record-read-back = read-back (checkpoint-laws .reads) (framing, counted s) record-fits
 
   pub checkpoint-decoded : decodeCheckpoint (checkpointBytes s) ≡ counted s
   unfolding decodeCheckpoint

@@ -1,2 +1,3 @@
 -- Laws of digits.
 pub mod Stored
+pub mod Texts

@@ -1,28 +1,26 @@
 -- Decimal digits stored from the last one on.
 use Prim.Native.Nat.{ℕ, zero, suc, _+_, _-_, _*_, _/_, _%_, _^_, _≤_, _<_}
 use native.Mathlib.Omega.{arith}
-use native.Mathlib.Nat.{le-of-eq, suc-add, pow-suc}
+use native.Mathlib.Nat.{suc-add, pow-suc}
 use mathlib.Core.Path.{_≡_, refl, sym, ap, _∙_}
 use mathlib.Core.Bool.{true, false, cond, _&&_, and-eq-true-iff}
 use mathlib.Core.List.{List, [], _∷_, _++_, append-assoc, append-nil}
 use lib.Dec.{ltb, leb}
-use lib.ListN.{length, set, take, drop, length-set, length-append, length-drop, drop-of-length-le}
-use lib.Seq.{drop-at, set-split, length-take-le, take-all}
+use lib.ListN.{length, set, replicate, length-set, length-append, length-replicate}
 use borrow.Author.Tests.{ltb-true, ltb-false, leb-true, lt-ltb, le-ltb, le-leb}
 use Rattle.lists.proofs.Tests.{cond-cases}
 use Rattle.decimal.specs.Decimal.{digits, mostDigits, decimal}
 use Rattle.decimal.specs.Claims.{NoDigitLeftOut}
 
--- what stands from the stored byte on
-from-stored : (l : List ℕ) (k d : ℕ) → k < length l → drop k (set l k d) ≡ d ∷ drop (suc k) l
-from-stored l k d h = ap (drop k) (set-split l k d h) ∙ drop-at (take k l) (d ∷ drop (suc k) l) k (length-take-le k l (omega arith))
+-- one space less, and a byte in its place
+one-stored : (k d : ℕ) (t : List ℕ) → set (replicate (suc k) 32 ++ t) k d ≡ replicate k 32 ++ (d ∷ t)
+one-stored zero d t = refl
+one-stored (suc k) d t = ap (λ (l : List ℕ). 32 ∷ l) (one-stored k d t)
 
 -- one more digit is stored in front of those that stand there
-next-digit : (k x : ℕ) (l : List ℕ) → k < length l → 10 ≤ x
-    → digits (suc k) x ++ drop (suc k) l ≡ digits k (x / 10) ++ drop k (set l k (48 + x % 10))
+next-digit : (k x : ℕ) (t : List ℕ) → 10 ≤ x → digits (suc k) x ++ t ≡ digits k (x / 10) ++ ((48 + x % 10) ∷ t)
 unfolding digits
-next-digit k x l h e =
-    rw (le-ltb _ _ e, from-stored l k (48 + x % 10) h) (append-assoc (digits k (x / 10)) ((48 + x % 10) ∷ []) (drop (suc k) l))
+next-digit k x t e = rw (le-ltb _ _ e) (append-assoc (digits k (x / 10)) ((48 + x % 10) ∷ []) t)
 
 last-one : (k x : ℕ) → (10 ≤ x → k ≡ 0) → digits (suc k) x ≡ (48 + x % 10) ∷ []
 unfolding digits
@@ -31,24 +29,23 @@ last-one k x f =
     (λ t. let h = ltb-true x 10 t in ap (λ (n : ℕ). n ∷ []) (omega arith))
     (λ t. rw (f (ltb-false x 10 t)) refl)
 
--- the first digit is stored
-last-digit : (k x : ℕ) (l : List ℕ) → k < length l → (10 ≤ x → k ≡ 0)
-    → digits (suc k) x ++ drop (suc k) l ≡ drop k (set l k (48 + x % 10))
-last-digit k x l h f = rw (last-one k x f, from-stored l k (48 + x % 10) h) refl
-
--- the digits of x from index `from` up to the end stand in l, and those of `rest` are still to be stored in front of them
+-- the digits of x from index `from` up to the end stand in l after spaces, and those of `rest` are still to be stored in front of them
 pub record Stored (x from rest : ℕ) (l : List ℕ) : Type 0 where
   pub one : 1 ≤ from
   pub within : from ≤ mostDigits
   pub size : length l ≡ mostDigits
-  pub joined : digits from rest ++ drop from l ≡ decimal x
+  pub stored : List ℕ
+  pub spaces : l ≡ replicate from 32 ++ stored
+  pub joined : digits from rest ++ stored ≡ decimal x
 
-pub stored-none : (x : ℕ) (l : List ℕ) → length l ≡ mostDigits → Stored x mostDigits x l
-stored-none x l e = record {
+pub stored-none : (x : ℕ) → Stored x mostDigits x (replicate mostDigits 32)
+stored-none x = record {
   one = omega arith;
   within = omega arith;
-  size = e;
-  joined = rw (drop-of-length-le l (le-of-eq e)) (append-nil (decimal x));
+  size = refl;
+  stored = [];
+  spaces = refl;
+  joined = append-nil (decimal x);
 }
 
 pub stored-one : (x from rest : ℕ) (l : List ℕ) → Stored x from rest l → (leb 10 rest && ltb 1 from) ≡ true
@@ -62,22 +59,24 @@ stored-one x (suc k) rest l h t =
       one = omega arith;
       within = omega (arith, h .within);
       size = length-set l k (48 + rest % 10) ∙ h .size;
-      joined = sym (next-digit k rest l (omega (arith, h .size, h .within)) (leb-true _ _ (b .0))) ∙ h .joined;
+      stored = (48 + rest % 10) ∷ h .stored;
+      spaces = rw (h .spaces) (one-stored k (48 + rest % 10) (h .stored));
+      joined = sym (next-digit k rest (h .stored) (leb-true _ _ (b .0))) ∙ h .joined;
     })
 
 -- the digit in front is stored
 pub stored-all : (x from rest : ℕ) (l : List ℕ) → Stored x from rest l → (leb 10 rest && ltb 1 from) ≡ false
-    → drop (from - 1) (set l (from - 1) (48 + rest % 10)) ≡ decimal x
+    → let l′ = set l (from - 1) (48 + rest % 10) in
+    (l′ ≡ replicate (from - 1) 32 ++ decimal x) × (from - 1 + length (decimal x) ≡ mostDigits)
 stored-all x zero rest l h t = absurd (let z = h .one in omega arith)
 stored-all x (suc k) rest l h t =
     let first : 10 ≤ rest → k ≡ 0 =
     λ m. (let u = rw (le-leb _ _ m) at t in let v : suc k ≤ 1 = ltb-false _ _ u in omega arith) in
     let e : suc k - 1 ≡ k = omega arith in
-    rw e (sym (last-digit k rest l (omega (arith, h .size, h .within)) first) ∙ h .joined)
-
--- all from an index on, as code takes it from an array of n bytes
-pub part-of : (n a : ℕ) (b : List ℕ) → length b ≡ n → take (n - a) (drop a b) ≡ drop a b
-part-of n a b e = rw (← e) (take-all (length b - a) (drop a b) (le-of-eq (length-drop a b)))
+    let d : (48 + rest % 10) ∷ h .stored ≡ decimal x = ap (λ (q : List ℕ). q ++ h .stored) (sym (last-one k rest first)) ∙ h .joined in
+    let s : set l k (48 + rest % 10) ≡ replicate k 32 ++ decimal x = rw (h .spaces, one-stored k (48 + rest % 10) (h .stored), d) in
+    let n = simp (length-append, length-replicate, length-set) at (ap length s) in
+    rw e (s, omega (arith, h .size))
 
 -- ---- how many
 
@@ -102,3 +101,13 @@ more-room (suc k) j x h =
 
 pub no-digit-left-out : NoDigitLeftOut
 no-digit-left-out x k h = more-room 19 k x (omega arith)
+
+-- a number below ten to the power of w has at most w digits
+pub decimal-below : (w x : ℕ) → 1 ≤ w → w ≤ mostDigits → x < 10 ^ w → decimal x ≡ digits w x
+decimal-below zero x a b h = absurd (omega arith)
+decimal-below (suc k) x a b h =
+    let e : mostDigits ≡ suc k + (mostDigits - suc k) = omega arith in
+    ap (λ (n : ℕ). digits n x) e ∙ more-room k (mostDigits - suc k) x h
+
+pub length-below : (w x : ℕ) → 1 ≤ w → w ≤ mostDigits → x < 10 ^ w → length (decimal x) ≤ w
+length-below w x a b h = rw (decimal-below w x a b h) (length-digits w x)

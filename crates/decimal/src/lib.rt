@@ -1,15 +1,16 @@
 // Numbers written in decimal.
 ghost use mathlib.Core.Path.{_≡_};
-ghost use Prim.Native.Nat.{_+_, _≤_};
-ghost use lib.ListN.{length, drop};
+ghost use mathlib.Core.List.{_++_};
+ghost use Prim.Native.Nat.{_+_, _^_, _≤_, _<_};
+ghost use lib.ListN.{length, replicate};
 ghost use Rattle.binary.specs.Splice.{splice};
-ghost use Rattle.decimal.specs.Decimal.{mostDigits, decimal};
+ghost use Rattle.decimal.specs.Decimal.{mostDigits, decimal, aligned};
 use binary::put_bytes;
 
 // The digits of the greatest number of 64 bits.
 pub const MOST_DIGITS: usize = 20;
 
-// Decimal digits, from an index up to the end.
+// Decimal digits, from an index up to the end, with spaces in front.
 struct Digits {
     bytes: [u8; MOST_DIGITS],
     from: usize,
@@ -17,9 +18,9 @@ struct Digits {
 
 // The digits of a number, stored from the last one on.
 fn digits_of(x: u64) -> Digits
-    ensures { λ r. ⌜ (drop (r .from) (r .bytes) ≡ decimal x) × ((length (r .bytes) ≡ mostDigits) × (r .from ≤ mostDigits)) ⌝ }
+    ensures { λ r. ⌜ (r .bytes ≡ replicate (r .from) 32 ++ decimal x) × (r .from + length (decimal x) ≡ mostDigits) ⌝ }
 {
-    let mut bytes = [0u8; MOST_DIGITS];
+    let mut bytes = [32u8; MOST_DIGITS];
     let mut from: usize = MOST_DIGITS;
     let mut rest = x;
     while (rest >= 10) & (from > 1) {
@@ -45,4 +46,15 @@ pub fn put_decimal(out: &mut [u8], at: usize, x: u64) -> usize
     let bytes = digits.bytes;
     let from = digits.from;
     put_bytes(out, at, &bytes[from..])
+}
+
+// Writes a number right-aligned in a width at a position.
+pub fn put_aligned(out: &mut [u8], at: usize, width: usize, x: u64)
+    requires { ⌜ (1 ≤ width) × ((width ≤ mostDigits) × ((x < 10 ^ width) × (at + width ≤ length (now out)))) ⌝ }
+    ensures { λ _. ⌜ now (out .exit) ≡ splice (now (out .entry)) at (aligned width x) ⌝ }
+{
+    let digits = digits_of(x);
+    let bytes = digits.bytes;
+    let from = MOST_DIGITS - width;
+    put_bytes(out, at, &bytes[from..]);
 }

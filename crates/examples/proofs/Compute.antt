@@ -1,9 +1,12 @@
--- What unfolds where a call is computed on numerals: `unfolding calls-by-value` opens every definition that the four calls use.
+-- What unfolds where a call is computed on numerals: `unfolding calls-by-value` opens every definition that the calls use.
 use Rattle.lists.specs.Fold.{any, all, count, countFrom, first}
 use Rattle.lists.specs.Table.{risingFrom, keep, fill, replaceFirst}
 use Rattle.refusals.specs.Refusals.{lowest}
-use Rattle.binary.specs.Number.{toBytes, fromBytes, isZeroFrom}
+use Rattle.binary.specs.Number.{toBytes, fromBytes, isZeroFrom, isSameBytes, overwrite}
 use Rattle.binary.specs.Codec.{encodeRows, decodeRows}
+use Rattle.decimal.specs.Decimal.{digits, padded}
+use Rattle.calendar.specs.Calendar.{monthDays, nextDate, dateOf}
+use Rattle.calendar.specs.Text.{dayText}
 use Rattle.state.specs.Minima.{isInRange}
 use Rattle.state.specs.Seats.{presentSeats, quorum, quorumOf}
 use Rattle.state.specs.Trustees.{onesBelow, isMajority}
@@ -11,6 +14,8 @@ use Rattle.state.specs.Subjects.{isCertify, isMinima, isRemove, isSubject}
 use Rattle.state.specs.WellFormed.{areWellFormedProposals, areWellFormedLogins, isWellFormed, blankState}
 use Rattle.tables.specs.Proposals.{addProposal, hasProposal, dropProposal, matureProposal}
 use Rattle.tables.specs.Logins.{findLogin, isListed, insertLogin, grantLogin, endLogin}
+use Rattle.page.specs.Line.{places}
+use Rattle.page.specs.Page.{linesOf, pageText}
 use Rattle.records.specs.Announcement.{announcing, readPropose, readCancel, readPresents, readCertify, readMinima, readRemove, readRejoin}
 use Rattle.records.specs.Announcement.{readGrant, readEnd, readKind, readAnnouncement, announcementBytes}
 use Rattle.records.specs.Sheet.{rowsOf, isSheet, counts, countedSeats, sheetOf}
@@ -18,15 +23,16 @@ use Rattle.records.specs.StartQuery.{readStart, readQuery}
 use Rattle.checkpoint.specs.Checkpoint.{checkpointBytes, decodeCheckpoint, isCheckpoint, readCheckpoint}
 use Rattle.rules.specs.Rules.{timeRefusal, noticeRefusal, quorumRefusal, presentWithout, checkRefusal, actionRefusal}
 use Rattle.actions.specs.Perform.{withStanding, withLife, effect, useProposal, act, perform}
-use Rattle.verdicts.specs.Own.{isSameBytes}
 use Rattle.verdicts.specs.Verdicts.{deliverRefusal, showsQuorum, voteRefusal, loginRefusal, queryRefusal, startRefusal}
 use Rattle.node.specs.Deliver.{deliverRead, deliverOf}
 use Rattle.node.specs.Query.{queryReply, queryOf}
 use Rattle.node.specs.Start.{blankNode, startRead, startOf}
 use Rattle.node.specs.Checkpoint.{checkpointOf}
+use Rattle.node.specs.Page.{pageOf, pageSlice}
 
 unfoldable pub calls-by-value : Unit {0}
-unfolding any all count countFrom first risingFrom keep fill replaceFirst lowest toBytes fromBytes isZeroFrom encodeRows decodeRows
+unfolding any all count countFrom first risingFrom keep fill replaceFirst lowest toBytes fromBytes isZeroFrom overwrite encodeRows decodeRows
+    digits padded monthDays nextDate dateOf dayText places linesOf pageText
     isInRange presentSeats quorum quorumOf onesBelow isMajority isCertify isMinima isRemove isSubject
     areWellFormedProposals areWellFormedLogins isWellFormed blankState
     addProposal hasProposal dropProposal matureProposal findLogin isListed insertLogin grantLogin endLogin
@@ -36,5 +42,5 @@ unfolding any all count countFrom first risingFrom keep fill replaceFirst lowest
     timeRefusal noticeRefusal quorumRefusal presentWithout checkRefusal actionRefusal
     withStanding withLife effect useProposal act perform isSameBytes
     deliverRefusal showsQuorum voteRefusal loginRefusal queryRefusal startRefusal
-    deliverRead deliverOf queryReply queryOf blankNode startRead startOf checkpointOf
+    deliverRead deliverOf queryReply queryOf blankNode startRead startOf checkpointOf pageOf pageSlice
 calls-by-value = tt

@@ -29,4 +29,6 @@ table-of-no = record {
   ended = refl;
   right-not-held = refl;
   slice-too-short = refl;
+  page-too-long = refl;
+  full-page-too-long = refl;
 }

@@ -2,3 +2,4 @@
 pub mod Records
 pub mod Examples
 pub mod TableOfNo
+pub mod AccessPage

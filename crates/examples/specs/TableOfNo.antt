@@ -1,4 +1,4 @@
--- "The table of no": the example of each row, from 1 to 22.
+-- "The table of no": the example of each row, from 1 to 22; and 23, which the access page adds.
 use mathlib.Core.Path.{_≡_}
 use mathlib.Core.List.{List, [], _∷_, _++_}
 use Prim.Native.Nat.{ℕ, zero, suc}
@@ -16,10 +16,12 @@ use Rattle.node.specs.declared.Node.{Node}
 use Rattle.node.specs.declared.DeliverAnswer.the-variants as Deliver
 use Rattle.node.specs.declared.QueryAnswer.the-variants as Query
 use Rattle.node.specs.declared.CheckpointAnswer.the-variants as Checkpoint
+use Rattle.node.specs.declared.PageAnswer.the-variants as Page
 use Rattle.node.specs.Start.{startOf}
 use Rattle.node.specs.Deliver.{deliverOf}
 use Rattle.node.specs.Query.{queryOf}
 use Rattle.node.specs.Checkpoint.{checkpointOf}
+use Rattle.node.specs.Page.{pageOf}
 use Rattle.examples.specs.Records.{firstCheckpoint, startSeat0, announce, grant501, vote, unvoted, twoVotes, query}
 
 -- ---- states
@@ -132,3 +134,6 @@ pub record TableOfNo : Type 0 where
   pub right-not-held : queryOf granted (query 501 101 1) .answer ≡ Query.Refused 21
   -- 22 "output slice shorter than 1,108 (checkpoint)": "1,107 bytes"
   pub slice-too-short : checkpointOf (started firstState) (replicate 1107 0) .answer ≡ Checkpoint.Refused 22
+  -- 23 "slice shorter than 47 bytes times the logins": 46 bytes for one login, 3,007 for 64
+  pub page-too-long : pageOf granted (replicate 46 0) .answer ≡ Page.Refused 23
+  pub full-page-too-long : pageOf (started fullLogins) (replicate 3007 0) .answer ≡ Page.Refused 23

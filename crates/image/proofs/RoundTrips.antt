@@ -49,7 +49,7 @@ module _ (n : Node) (h : Fits n) where
 
   pub image-length : length (imageBytes n) ≡ imageSize
   unfolding imageBytes
-  image-length = rw (length-append, state-length, own-laws .long (fieldsOf (n .own)) (h .1))
+  image-length = rw (length-append, state-length, own-laws .reads .long (fieldsOf (n .own)) (h .1))
 
   state-part : take checkpointSize (imageBytes n) ≡ checkpointBytes (n .state)
   unfolding imageBytes
@@ -60,7 +60,7 @@ module _ (n : Node) (h : Fits n) where
   own-part = drop-at (checkpointBytes (n .state)) _ ownAt state-length
 
   own-decoded : ownFields .decode (drop ownAt (imageBytes n)) ≡ fieldsOf (n .own)
-  own-decoded = rw own-part (read-back own-laws (fieldsOf (n .own)) (h .1))
+  own-decoded = rw own-part (read-back (own-laws .reads) (fieldsOf (n .own)) (h .1))
 
   image-decoded : decodeImage (imageBytes n) ≡ n
   unfolding decodeImage

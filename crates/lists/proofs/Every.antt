@@ -1,7 +1,7 @@
 -- Lists whose elements all have a property, and what the list operations keep of it.
 use mathlib.Core.Path.{_≡_, refl, ap}
 use mathlib.Core.Bool.{Bool, true, false, _||_, and-eq-true-iff, or-true, false≢true}
-use mathlib.Core.List.{List, [], _∷_, _++_, List·Memᴰ, List·Memᴰ·head, List·Memᴰ·tail}
+use mathlib.Core.List.{List, [], _∷_, _++_, List·Memᴰ, List·Memᴰ·head, List·Memᴰ·tail, map}
 use Prim.Native.Nat.{ℕ, zero, suc, _-_}
 use lib.ListN.{length, getD, take, set, replicate}
 use Rattle.lists.specs.Fold.{any, all}
@@ -60,6 +60,11 @@ module _ {A : Type 0} (p : A → Bool) where
 pub all-map : {A : Type 0} {P Q : A → Type 0} {xs : List A} → ((x : A) → P x → Q x) → All P xs → All Q xs
 all-map f none = none
 all-map f (more {x = x} h t) = more (f x h) (all-map f t)
+
+-- A property of each element that a function makes.
+pub all-mapped : {A B : Type 0} (P : B → Type 0) (f : A → B) {xs : List A} → All (λ x. P (f x)) xs → All P (map f xs)
+all-mapped P f none = none
+all-mapped P f (more h t) = more h (all-mapped P f t)
 
 -- Two properties at once.
 pub all-both : {A : Type 0} {P Q : A → Type 0} {xs : List A} → All P xs → All Q xs → All (λ x. P x × Q x) xs

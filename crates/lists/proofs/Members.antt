@@ -9,6 +9,8 @@ use lib.Dec.{eqb}
 use lib.ListN.{length, getD, replicate, getD-replicate}
 use borrow.Author.Tests.{eqb-true, eq-eqb, ne-eqb, not-true}
 use Rattle.lists.specs.Fold.{countFrom, Distinct}
+use Rattle.lists.specs.Table.{keep}
+use Rattle.lists.proofs.Tests.{cond-cases}
 use Rattle.lists.proofs.Every.{All, more}
 
 -- ---- members
@@ -29,6 +31,28 @@ module _ {A B : Type 0} (f : A → B) where
       pick : (List·Memᴰ y (map f xs) → P y) → (y ≡ f x) ⊎ List·Memᴰ y (map f xs) → P y
       pick ih (inl e) = rw e (h x (List·Memᴰ·head refl))
       pick ih (inr k) = ih k
+
+-- the members that are kept
+module _ {A : Type 0} (p : A → Bool) where
+  pub to-keep : {x : A} {xs : List A} → List·Memᴰ x xs → p x ≡ true → List·Memᴰ x (keep p xs)
+  unfolding keep
+  to-keep (List·Memᴰ·head e) h = rw (← e, h) (List·Memᴰ·head refl)
+  to-keep {x} (List·Memᴰ·tail {x = y} {xs = ys} m) h =
+      cond-cases (List·Memᴰ x) (p y) {x = y ∷ keep p ys} {y = keep p ys} (λ _. List·Memᴰ·tail (to-keep m h)) (λ _. to-keep m h)
+
+  pub of-keep : {x : A} (xs : List A) → List·Memᴰ x (keep p xs) → List·Memᴰ x xs × (p x ≡ true)
+  unfolding keep
+  of-keep [] m = absurd (List·Memᴰ·not-nil m)
+  of-keep {x} (y ∷ ys) m = at (p y) refl m (of-keep ys)
+    where
+      at : (b : Bool) → p y ≡ b → List·Memᴰ x (cond b (y ∷ keep p ys) (keep p ys)) → (List·Memᴰ x (keep p ys) → List·Memᴰ x ys × (p x ≡ true))
+          → List·Memᴰ x (y ∷ ys) × (p x ≡ true)
+      at true e k f = pick (List·Memᴰ·cases-cons k)
+        where
+          pick : (x ≡ y) ⊎ List·Memᴰ x (keep p ys) → List·Memᴰ x (y ∷ ys) × (p x ≡ true)
+          pick (inl q) = (List·Memᴰ·head q, rw q e)
+          pick (inr j) = (List·Memᴰ·tail (f j .0), f j .1)
+      at false e k f = (List·Memᴰ·tail (f k .0), f k .1)
 
 -- ---- counts
 

@@ -2,12 +2,14 @@
 use mathlib.Core.Path.{_≡_, refl, sym, ap, _∙_}
 use mathlib.Core.Logic.{_≢_}
 use mathlib.Core.Bool.{Bool, true, false, cond, and-eq-true-iff, false≢true}
-use mathlib.Core.List.{List, [], _∷_}
+use mathlib.Core.List.{List}
 use Prim.Native.Nat.{ℕ, _≤_}
 use native.Mathlib.Omega.{arith}
 use lib.Dec.{eqb}
 use borrow.Author.Tests.{eqb-true, eqb-false, eq-eqb, leb-true, le-leb, not-true}
 use Rattle.lists.proofs.Tests.{cond-cases}
+use Rattle.binary.specs.Number.{isSameBytes}
+use Rattle.binary.proofs.Same.{same-bytes}
 use Rattle.records.specs.declared.Announcement.{Announcement}
 use Rattle.records.specs.declared.AnnouncementRead.{AnnouncementRead}
 use Rattle.records.specs.declared.AnnouncementRead.the-variants.{Read, Malformed}
@@ -16,7 +18,7 @@ use Rattle.records.specs.Sheet.{isSheet}
 use Rattle.refusals.proofs.Chains.{passes, passes-rule, not-zero, bounds}
 use Rattle.rules.specs.Rules.{timeRefusal}
 use Rattle.rules.proofs.Passed.{time-within, action-within}
-use Rattle.verdicts.specs.Own.{isHalted, canVote, isSameBytes, votedOtherwise}
+use Rattle.verdicts.specs.Own.{isHalted, canVote, votedOtherwise}
 use Rattle.verdicts.specs.Verdicts.{deliverRefusal, showsQuorum, voteRefusal}
 use Rattle.node.specs.declared.Node.{Node}
 use Rattle.node.specs.declared.DeliverReply.{DeliverReply}
@@ -25,19 +27,6 @@ use Rattle.node.specs.Deliver as Deliver
 use Rattle.node.specs.Deliver.{withoutQuorum, deliverRead, deliverRecords, deliverOf}
 use Rattle.node.specs.Claims.{MayVote, Accepted, ShowsQuorum, announcement-malformed, sheet-malformed, rule, may-not-vote}
 use Rattle.node.specs.Claims.{voted-otherwise, Delivery, refuses, votes, performs, DeliverComesTo}
-
--- Two lists of bytes are the same where the test says so.
-pub same-bytes : (b : List ℕ) → isSameBytes b b ≡ true
-unfolding isSameBytes
-same-bytes [] = refl
-same-bytes (x ∷ xs) = rw (eq-eqb x x refl) (same-bytes xs)
-
-pub bytes-same : (a b : List ℕ) → isSameBytes a b ≡ true → a ≡ b
-unfolding isSameBytes
-bytes-same [] [] e = refl
-bytes-same [] (y ∷ ys) e = absurd (false≢true e)
-bytes-same (x ∷ xs) [] e = absurd (false≢true e)
-bytes-same (x ∷ xs) (y ∷ ys) e = let t = and-eq-true-iff (eqb x y) (isSameBytes xs ys) .0 e in rw (eqb-true x y (t .0), bytes-same xs ys (t .1))
 
 pub may-vote : (n : Node) → canVote (n .state) (n .own) ≡ true → MayVote n
 may-vote n e = let t = simp and-eq-true-iff at e in record { standing = eqb-true _ _ (t .0); life = eqb-true _ _ (t .1) }

@@ -9,6 +9,8 @@ use lib.Dec.{eqb, leb}
 use borrow.Author.Tests.{eqb-true, eq-eqb, ne-eqb, le-leb, lt-ltb, lt-leb}
 use Rattle.lists.proofs.Tests.{cond-cases}
 use Rattle.refusals.proofs.Chains.{not-zero, rule-within}
+use Rattle.binary.specs.Number.{isSameBytes}
+use Rattle.binary.proofs.Same.{bytes-same}
 use Rattle.state.specs.declared.Cycle.{Cycle}
 use Rattle.state.specs.declared.Seat.{Seat}
 use Rattle.state.specs.declared.State.{State}
@@ -26,7 +28,7 @@ use Rattle.records.specs.Announcement.{readAnnouncement}
 use Rattle.records.specs.Sheet.{isSheet, level1, level2, rowsOf, countedSeats}
 use Rattle.rules.specs.Rules.{timeRefusal, noticeRefusal, quorumRefusal, checkRefusal, actionRefusal}
 use Rattle.actions.specs.Perform.{perform}
-use Rattle.verdicts.specs.Own.{isHalted, heldSeat, canVote, isSameBytes, votedOtherwise}
+use Rattle.verdicts.specs.Own.{isHalted, heldSeat, canVote, votedOtherwise}
 use Rattle.verdicts.specs.Verdicts.{deliverRefusal, showsQuorum, voteRefusal}
 use Rattle.node.specs.declared.Node.{Node}
 use Rattle.node.specs.declared.DeliverReply.{DeliverReply}
@@ -38,7 +40,7 @@ use Rattle.node.specs.Applies.{no-1, no-2, no-3, no-4, no-5, no-6, no-7,
 use Rattle.node.specs.Applies.{no-10, no-11, no-12, no-13, no-14, no-15, no-16, no-17}
 use Rattle.node.proofs.DeliverApplies.{unsigned, unnoticed}
 use Rattle.refusals.proofs.UpTo.{UpTo, by-itself, in-first, in-rest, in-left, in-right, reaches}
-use Rattle.node.proofs.Deliver.{bytes-same, may-vote, within-rules}
+use Rattle.node.proofs.Deliver.{may-vote, within-rules}
 use Rattle.rules.proofs.Passed.{time-within}
 use Rattle.rules.proofs.Notices.{lacks-notice}
 use Rattle.node.proofs.LeftSeats.{too-few, presents-leaves, back-leaves, minima-leaves, remove-leaves}

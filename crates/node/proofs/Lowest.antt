@@ -8,17 +8,19 @@ use native.Mathlib.Omega.{arith}
 use lib.Dec.{leb}
 use lib.ListN.{length}
 use borrow.Author.Tests.{leb-false, lt-leb}
+use Rattle.state.specs.declared.Day.{Day}
 use Rattle.checkpoint.specs.Layout.{checkpointSize}
 use Rattle.node.specs.declared.Node.{Node}
 use Rattle.node.specs.declared.StartReply.{StartReply}
 use Rattle.node.specs.declared.DeliverReply.{DeliverReply}
 use Rattle.node.specs.declared.QueryReply.{QueryReply}
-use Rattle.node.specs.Answers.{startNumber, deliverNumber, queryNumber, checkpointNumber}
+use Rattle.node.specs.Answers.{startNumber, deliverNumber, queryNumber, checkpointNumber, pageNumber}
 use Rattle.node.specs.Checkpoint.{checkpointOf}
+use Rattle.node.specs.Page.{pageFits, pageOf}
 use Rattle.node.specs.Claims as Comes
 use Rattle.node.specs.Claims.{Starting, Delivery, Asking}
-use Rattle.node.specs.Applies.{deliver, query, checkpoint, Asked, start, at, numberGiven, Tries}
-use Rattle.node.specs.Applies.{Applies, no-3, no-6, no-17, no-22, GivesLowest, NoneApplies}
+use Rattle.node.specs.Applies.{deliver, query, checkpoint, page, Asked, start, at, numberGiven, Tries}
+use Rattle.node.specs.Applies.{Applies, no-3, no-6, no-17, no-22, no-23, GivesLowest, NoneApplies}
 use Rattle.refusals.proofs.UpTo.{UpTo}
 use Rattle.node.proofs.Start.{start-comes-to}
 use Rattle.node.proofs.Deliver.{deliver-comes-to}
@@ -57,16 +59,25 @@ giving n out {k} q z = by (leb checkpointSize (length out)) refl
     by true e = absurd (z (sym q ∙ rw e))
     by false e = let w : k ≡ 22 = sym q ∙ rw e in (inr w, rw w (no-22 (leb-false _ _ e)))
 
+paging : (n : Node) (given : Day) (out : List ℕ) {k : ℕ} → pageNumber (pageOf n out .answer) ≡ k → k ≢ 0 → Holds (at n (page given out)) k
+unfolding pageOf
+paging n given out {k} q z = by (pageFits n out) refl
+  where
+    by : (b : Bool) → pageFits n out ≡ b → Holds (at n (page given out)) k
+    by true e = absurd (z (sym q ∙ rw e))
+    by false e = let w : k ≡ 23 = sym q ∙ rw e in (inr w, rw w (no-23 (leb-false _ _ e)))
+
 holds : (x : Asked) (k : ℕ) → numberGiven x ≡ k → k ≢ 0 → k ≢ 128 → Holds x k
 holds (start cb sb) k q z v = starting (start-comes-to cb sb) q z
 holds (at n (deliver ab sb)) k q z v = delivering (deliver-comes-to n ab sb) q z v
 holds (at n (query qb)) k q z v = asking (query-comes-to n qb) q z
 holds (at n (checkpoint out)) k q z v = giving n out q z
+holds (at n (page given out)) k q z v = paging n given out q z
 
 -- ---- no number above one that applies is given
 
--- Checkpoint tries 1 and 22 only.
-untried : {P : Type 0} {k : ℕ} → (k ≡ 1) ⊎ (k ≡ 22) → k ≢ 1 → k ≢ 22 → P
+-- Checkpoint tries 1 and 22 only, page 1 and 23.
+untried : {P : Type 0} {k j : ℕ} → (k ≡ 1) ⊎ (k ≡ j) → k ≢ 1 → k ≢ j → P
 untried (inl e) a b = absurd (a e)
 untried (inr e) a b = absurd (b e)
 
@@ -78,14 +89,23 @@ checkpoint-up-to t (no-6 h) = untried t (omega arith) (omega arith)
 checkpoint-up-to t (no-17 h) = untried t (omega arith) (omega arith)
 checkpoint-up-to t (no-22 h) = rw (lt-leb _ _ h) (omega arith)
 
+page-up-to : {n : Node} {given : Day} {out : List ℕ} {j : ℕ} → Tries (at n (page given out)) j → Applies (at n (page given out)) j
+    → UpTo j (pageNumber (pageOf n out .answer))
+unfolding pageOf
+page-up-to t (no-3 h) = untried t (omega arith) (omega arith)
+page-up-to t (no-6 h) = untried t (omega arith) (omega arith)
+page-up-to t (no-17 h) = untried t (omega arith) (omega arith)
+page-up-to t (no-23 h) = rw (lt-leb _ _ h) (omega arith)
+
 up-to : (x : Asked) (j : ℕ) → Tries x j → Applies x j → UpTo j (numberGiven x)
 up-to (start cb sb) j t h = start-up-to h
 up-to (at n (deliver ab sb)) j t h = deliver-up-to t h
 up-to (at n (query qb)) j t h = query-up-to t h
 up-to (at n (checkpoint out)) j t h = checkpoint-up-to t h
+up-to (at n (page given out)) j t h = page-up-to t h
 
--- No number that is tried is above 22.
-tries-up-to : (x : Asked) (j : ℕ) → Tries x j → j ≤ 22
+-- No number that is tried is above 23.
+tries-up-to : (x : Asked) (j : ℕ) → Tries x j → j ≤ 23
 tries-up-to (start cb sb) j (inl t) = omega arith
 tries-up-to (start cb sb) j (inr (inl t)) = omega arith
 tries-up-to (start cb sb) j (inr (inr t)) = omega arith
@@ -95,6 +115,8 @@ tries-up-to (at n (query qb)) j (inr (inl t)) = omega arith
 tries-up-to (at n (query qb)) j (inr (inr t)) = omega arith
 tries-up-to (at n (checkpoint out)) j (inl t) = omega arith
 tries-up-to (at n (checkpoint out)) j (inr t) = omega arith
+tries-up-to (at n (page given out)) j (inl t) = omega arith
+tries-up-to (at n (page given out)) j (inr t) = omega arith
 
 -- ---- the claims
 

@@ -8,6 +8,8 @@ use Rattle.node.specs.declared.QueryAnswer.{QueryAnswer}
 use Rattle.node.specs.declared.QueryAnswer.the-variants as Q
 use Rattle.node.specs.declared.CheckpointAnswer.{CheckpointAnswer}
 use Rattle.node.specs.declared.CheckpointAnswer.the-variants as C
+use Rattle.node.specs.declared.PageAnswer.{PageAnswer}
+use Rattle.node.specs.declared.PageAnswer.the-variants as P
 
 abbrev pub startNumber : StartAnswer → ℕ
 startNumber S.Started = 0
@@ -25,3 +27,7 @@ queryNumber (Q.Refused k) = k
 abbrev pub checkpointNumber : CheckpointAnswer → ℕ
 checkpointNumber C.Given = 0
 checkpointNumber (C.Refused k) = k
+
+abbrev pub pageNumber : PageAnswer → ℕ
+pageNumber (P.Given lines) = 0
+pageNumber (P.Refused k) = k

@@ -3,11 +3,12 @@ use mathlib.Core.Path.{_≡_}
 use mathlib.Core.Logic.{_≢_, _⊎_}
 use mathlib.Core.Bool.{true, false}
 use mathlib.Core.List.{List, List·Memᴰ}
-use Prim.Native.Nat.{ℕ, _≤_, _<_}
+use Prim.Native.Nat.{ℕ, _*_, _≤_, _<_}
 use lib.ListN.{length}
 use Rattle.state.specs.declared.Seat.{Seat}
 use Rattle.state.specs.declared.Login.{Login}
 use Rattle.state.specs.declared.Cycle.{Cycle}
+use Rattle.state.specs.declared.Day.{Day}
 use Rattle.state.specs.declared.Subject.{Subject}
 use Rattle.state.specs.declared.Proposal.{Proposal}
 use Rattle.state.specs.Time.{laterDay, daysSince, lastCycle, DayBefore, CycleBefore}
@@ -27,17 +28,20 @@ use Rattle.records.specs.Actions.{kindOf, levelOf, subjectOf}
 use Rattle.records.specs.Announcement.{readAnnouncement}
 use Rattle.records.specs.Sheet.{isSheet, level1, level2, rowsOf, countedSeats}
 use Rattle.records.specs.StartQuery.{readQuery, readStart}
+use Rattle.page.specs.Layout.{lineSize}
+use Rattle.page.specs.Page.{lineCount}
 use Rattle.checkpoint.specs.Layout.{checkpointSize}
 use Rattle.checkpoint.specs.Checkpoint.{isCheckpoint, readCheckpoint}
 use Rattle.rules.specs.Rules.{isSigned}
 use Rattle.actions.specs.Perform.{perform}
 use Rattle.verdicts.specs.Own.{mostMisses, heldSeat}
 use Rattle.node.specs.declared.Node.{Node}
-use Rattle.node.specs.Answers.{startNumber, deliverNumber, queryNumber, checkpointNumber}
+use Rattle.node.specs.Answers.{startNumber, deliverNumber, queryNumber, checkpointNumber, pageNumber}
 use Rattle.node.specs.Start.{startOf}
 use Rattle.node.specs.Deliver.{deliverOf}
 use Rattle.node.specs.Query.{queryOf}
 use Rattle.node.specs.Checkpoint.{checkpointOf}
+use Rattle.node.specs.Page.{pageOf}
 
 -- ---- the calls
 
@@ -46,6 +50,7 @@ pub data Call : Type 0 where
   deliver : (announcement sheet : List ℕ) → Call
   query : (query : List ℕ) → Call
   checkpoint : (out : List ℕ) → Call
+  page : (given : Day) (out : List ℕ) → Call
 
 -- a call by value, with all that it is handed
 pub data Asked : Type 0 where
@@ -58,6 +63,7 @@ numberGiven (start cb sb) = startNumber (startOf cb sb .answer)
 numberGiven (at n (deliver ab sb)) = deliverNumber (deliverOf n ab sb .answer)
 numberGiven (at n (query qb)) = queryNumber (queryOf n qb .answer)
 numberGiven (at n (checkpoint out)) = checkpointNumber (checkpointOf n out .answer)
+numberGiven (at n (page given out)) = pageNumber (pageOf n out .answer)
 
 -- "Start tries 1, 9 and 14; deliver 1 to 16; query 1, 3 and 17 to 21; checkpoint 1. Calls that write a slice also try 22, straight after 1 and 2.":
 -- by value that is checkpoint alone, and 1 never applies to it, for its node is a value and no image
@@ -66,6 +72,8 @@ Tries (start cb sb) k = (k ≡ 1) ⊎ ((k ≡ 9) ⊎ (k ≡ 14))
 Tries (at n (deliver ab sb)) k = (1 ≤ k) × (k ≤ 16)
 Tries (at n (query qb)) k = (k ≡ 1) ⊎ ((k ≡ 3) ⊎ ((17 ≤ k) × (k ≤ 21)))
 Tries (at n (checkpoint out)) k = (k ≡ 1) ⊎ (k ≡ 22)
+-- "23, .. tried after 1"
+Tries (at n (page given out)) k = (k ≡ 1) ⊎ (k ≡ 23)
 
 -- ---- the words of the table
 
@@ -198,6 +206,8 @@ pub data Applies : Asked → ℕ → Type 0 where
       → holdsRight (q .right) (findLogin (q .login) (n .state .logins)) ≡ false → Applies (at n (query qb)) 21
   -- 22 "output slice shorter than 1,108 (checkpoint) or 1,139 (image); longer ones keep their tail": by value only the checkpoint is written
   no-22 : {n : Node} {out : List ℕ} → length out < checkpointSize → Applies (at n (checkpoint out)) 22
+  -- 23 "slice shorter than 47 bytes times the logins"
+  no-23 : {n : Node} {given : Day} {out : List ℕ} → length out < lineSize * lineCount (n .state) → Applies (at n (page given out)) 23
 
 -- ---- "Otherwise the lowest number that applies is given, and only when it applies."
 

@@ -1,4 +1,4 @@
-// The four calls, by value: each consumes the node and hands back the next one with its answer.
+// The calls, by value: each consumes the node and hands back the next one with its answer.
 ghost use mathlib.Core.Path.{_≡_};
 ghost use mathlib.Core.Bool.{true};
 ghost use Prim.Native.Nat.{_<_};
@@ -10,20 +10,26 @@ ghost use Rattle.verdicts.specs.Own.{mostMisses};
 ghost use Rattle.node.specs.Query.{withMissCount, addsMiss, queryReply, queryOf};
 ghost use Rattle.node.specs.Start.{blankNode, refusesStart, startRead, startOf};
 ghost use Rattle.node.specs.Checkpoint.{checkpointOf, checkpointSlice};
+ghost use Rattle.node.specs.Page.{pageOf, pageSlice};
 use crate::CheckpointAnswer;
 use crate::CheckpointReply;
 use crate::DeliverAnswer;
 use crate::DeliverReply;
 use crate::Node;
+use crate::PageAnswer;
+use crate::PageReply;
 use crate::QueryAnswer;
 use crate::QueryReply;
 use crate::StartAnswer;
 use crate::StartReply;
 use actions::perform;
+use binary::size;
 use checkpoint::is_checkpoint;
 use checkpoint::layout::CHECKPOINT_SIZE;
 use checkpoint::state_in;
 use checkpoint::write_checkpoint;
+use page::layout::LINE_SIZE;
+use page::write_page;
 use records::Announcement;
 use records::AnnouncementRead;
 use records::QueryRead;
@@ -33,8 +39,10 @@ use records::is_sheet;
 use records::read_announcement;
 use records::read_query;
 use records::read_start;
+use state::Day;
 use state::State;
 use state::blank_state;
+use tables::logins::count_logins;
 use verdicts::deliver_refusal;
 use verdicts::own_afresh;
 use verdicts::query_refusal;
@@ -237,6 +245,27 @@ impl Node {
         CheckpointReply {
             node: self,
             answer: CheckpointAnswer::Given,
+        }
+    }
+
+    // Writes the access page of the day to the front of the slice, where it has room.
+    pub fn page(self, day: Day, out: &mut [u8]) -> PageReply
+        ensures { λ r. ⌜ r ≡ pageOf self (now (out .entry)) ⌝ }
+        ensures { λ r. ⌜ now (out .exit) ≡ pageSlice self day (now (out .entry)) ⌝ }
+    {
+        let state = self.state;
+        let logins = state.logins;
+        let lines = count_logins(logins);
+        if out.len() < LINE_SIZE * size(lines) {
+            return PageReply {
+                node: self,
+                answer: PageAnswer::Refused(23),
+            };
+        }
+        write_page(state, day, out);
+        PageReply {
+            node: self,
+            answer: PageAnswer::Given(lines),
         }
     }
 }

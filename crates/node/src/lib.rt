@@ -33,6 +33,12 @@ pub enum CheckpointAnswer {
     Refused(u8),
 }
 
+// Given holds the number of lines.
+pub enum PageAnswer {
+    Given(u8),
+    Refused(u8),
+}
+
 // A refused start yields no node: the blank one stands for it.
 pub struct StartReply {
     pub node: Node,
@@ -52,4 +58,9 @@ pub struct QueryReply {
 pub struct CheckpointReply {
     pub node: Node,
     pub answer: CheckpointAnswer,
+}
+
+pub struct PageReply {
+    pub node: Node,
+    pub answer: PageAnswer,
 }

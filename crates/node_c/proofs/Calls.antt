@@ -3,7 +3,7 @@ use mathlib.Core.Path.{_≡_, refl, sym, ap, _∙_}
 use mathlib.Core.Logic.{_⊎_, inl, inr}
 use mathlib.Core.Bool.{Bool, true, false, cond, _||_, and-eq-true-iff, true≢false}
 use mathlib.Core.List.{List}
-use Prim.Native.Nat.{ℕ, _≤_}
+use Prim.Native.Nat.{ℕ, _*_, _≤_}
 use lib.Dec.{eqb, leb}
 use lib.ListN.{length}
 use borrow.Author.Tests.{eqb-true, eqb-false, leb-true, leb-false, le-leb}
@@ -11,8 +11,12 @@ use Rattle.lists.proofs.Tests.{cond-cases, or-false-of}
 use Rattle.binary.specs.Number.{overwrite}
 use Rattle.image.specs.Layout.{imageSize}
 use Rattle.image.specs.Image.{imageBytes, isImage, ImageRead, readImage}
-use Rattle.node_c.specs.Calls.{HandedBack, Returned, tryRoom, writesImage, return, onImage}
+use Rattle.page.specs.Layout.{lineSize}
+use Rattle.page.specs.Page.{lineCount}
+use Rattle.node.specs.Page.{pageOf, pageSlice}
+use Rattle.node_c.specs.Calls.{HandedBack, Returned, tryRoom, writesImage, return, onImage, nodePage}
 use Rattle.node_c.specs.Claims.{Writes, Returning, no-room, writes, leaves, CallsReturn, CallsOnImages}
+use Rattle.node_c.specs.Claims.{stateIn, PageReturning, malformed, too-short, given, PageReturns}
 
 -- what the tests of the definition tell
 or-cases : {P : Type 0} (a b : Bool) → (a ≡ true → P) → (b ≡ true → P) → (a || b) ≡ true → P
@@ -102,3 +106,13 @@ image-ok image = cond-cases (λ (x : ImageRead). x .ok ≡ isImage image) (isIma
 pub calls-on-images : CallsOnImages
 unfolding onImage
 calls-on-images f image out = (λ e. rw (image-ok image, e), λ e. rw (image-ok image, e))
+
+pub page-returns : PageReturns
+unfolding nodePage pageOf pageSlice
+page-returns image d out = at (isImage image) refl (leb (lineSize * lineCount (stateIn image)) (length out)) refl
+  where
+    at : (b : Bool) → isImage image ≡ b → (r : Bool) → leb (lineSize * lineCount (stateIn image)) (length out) ≡ r
+        → PageReturning image d out (nodePage image d out)
+    at false e r f = malformed e (rw (image-ok image ∙ e))
+    at true e true f = given e (leb-true _ _ f) (rw (image-ok image ∙ e, f))
+    at true e false f = too-short e (leb-false _ _ f) (rw (image-ok image ∙ e, f))

@@ -1,16 +1,20 @@
--- The four calls for C, on images and slices: what is returned, and what the whole output slice then holds.
-use Prim.Native.Nat.{ℕ}
+-- The calls for C, on images and slices: what is returned, and what the whole output slice then holds.
+use Prim.Native.Nat.{ℕ, _*_}
 use mathlib.Core.List.{List}
 use mathlib.Core.Bool.{Bool, cond, _||_}
 use lib.Dec.{eqb, leb}
 use lib.ListN.{length}
 use Rattle.binary.specs.Number.{overwrite}
 use Rattle.node.specs.declared.Node.{Node}
+use Rattle.state.specs.Time.{day}
+use Rattle.node.specs.declared.PageAnswer.{PageAnswer}
+use Rattle.node.specs.declared.PageAnswer.the-variants as P
 use Rattle.node.specs.Answers.{startNumber, deliverNumber, queryNumber, checkpointNumber}
 use Rattle.node.specs.Start.{startOf}
 use Rattle.node.specs.Deliver.{deliverOf}
 use Rattle.node.specs.Query.{addsMiss, queryOf}
 use Rattle.node.specs.Checkpoint.{checkpointOf, checkpointSlice}
+use Rattle.node.specs.Page.{pageOf, pageSlice}
 use Rattle.image.specs.Layout.{imageSize}
 use Rattle.image.specs.Image.{imageBytes, readImage}
 
@@ -48,9 +52,12 @@ return r out =
     let k = tryRoom (leb imageSize (length out)) (r .number) in
     record { number = k; slice = cond (writesImage k) (overwrite (imageBytes (r .node)) out) out }
 
--- the same for a call on the node in an image; 1 "checkpoint or image malformed"
+-- a call on the node in an image; 1 "checkpoint or image malformed"
+abbrev pub onNodeIn : List ℕ → List ℕ → (Node → Returned) → Returned
+onNodeIn image out f = cond (readImage image .ok) (f (readImage image .node)) (record { number = 1; slice = out })
+
 unfoldable pub onImage : (Node → HandedBack) → List ℕ → List ℕ → Returned
-onImage f image out = cond (readImage image .ok) (return (f (readImage image .node)) out) (record { number = 1; slice = out })
+onImage f image out = onNodeIn image out (λ n. return (f n) out)
 
 unfoldable pub nodeStart : List ℕ → List ℕ → List ℕ → Returned
 nodeStart checkpoint start out = return (started checkpoint start) out
@@ -63,7 +70,13 @@ nodeQuery image query out = onImage (asked query) image out
 
 unfoldable pub nodeCheckpoint : List ℕ → List ℕ → Returned
 nodeCheckpoint image out =
-    let n = readImage image .node in
-    cond (readImage image .ok)
-    (record { number = checkpointNumber (checkpointOf n out .answer); slice = checkpointSlice n out })
-    (record { number = 1; slice = out })
+    onNodeIn image out (λ n. record { number = checkpointNumber (checkpointOf n out .answer); slice = checkpointSlice n out })
+
+-- the answer in the low 8 bits, and the number of lines above them, which is 0 for a refusal
+abbrev pub pageReturned : PageAnswer → ℕ
+pageReturned (P.Given lines) = 256 * lines
+pageReturned (P.Refused k) = k
+
+-- the page of the node in an image, for the given day d
+unfoldable pub nodePage : List ℕ → ℕ → List ℕ → Returned
+nodePage image d out = onNodeIn image out (λ n. record { number = pageReturned (pageOf n out .answer); slice = pageSlice n (day d) out })

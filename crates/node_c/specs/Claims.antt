@@ -3,13 +3,17 @@ use mathlib.Core.Path.{_≡_}
 use mathlib.Core.Logic.{_≢_, _⊎_}
 use mathlib.Core.Bool.{true, false}
 use mathlib.Core.List.{List}
-use Prim.Native.Nat.{ℕ, _≤_, _<_}
+use Prim.Native.Nat.{ℕ, _*_, _≤_, _<_}
 use lib.ListN.{length}
 use Rattle.binary.specs.Number.{overwrite}
+use Rattle.state.specs.declared.State.{State}
+use Rattle.state.specs.Time.{day}
+use Rattle.page.specs.Layout.{lineSize}
+use Rattle.page.specs.Page.{lineCount, pageText}
 use Rattle.node.specs.declared.Node.{Node}
 use Rattle.image.specs.Layout.{imageSize}
 use Rattle.image.specs.Image.{imageBytes, isImage, readImage}
-use Rattle.node_c.specs.Calls.{HandedBack, Returned, return, onImage}
+use Rattle.node_c.specs.Calls.{HandedBack, Returned, return, onImage, nodePage}
 
 -- the numbers with which an image is written: started, performed or open; voted; a miss
 abbrev pub Writes : ℕ → Type 0
@@ -31,3 +35,20 @@ abbrev pub CallsOnImages : Type 0
 CallsOnImages = (f : Node → HandedBack) (image out : List ℕ)
     → (isImage image ≡ true → onImage f image out ≡ return (f (readImage image .node)) out)
     × (isImage image ≡ false → onImage f image out ≡ record { number = 1; slice = out })
+
+-- the state in an image's bytes
+abbrev pub stateIn : List ℕ → State
+stateIn image = readImage image .node .state
+
+-- node_page returns 1 for a malformed image and 23 for a slice that is too short, and leaves the slice as it was; else the number of lines above the
+-- low 8 bits, and the page of the given day d in front of the slice's tail.
+pub data PageReturning (image : List ℕ) (d : ℕ) (out : List ℕ) (x : Returned) : Type 0 where
+  malformed : isImage image ≡ false → x ≡ record { number = 1; slice = out } → PageReturning image d out x
+  too-short : isImage image ≡ true → length out < lineSize * lineCount (stateIn image) → x ≡ record { number = 23; slice = out }
+      → PageReturning image d out x
+  given : isImage image ≡ true → lineSize * lineCount (stateIn image) ≤ length out
+      → x ≡ record { number = 256 * lineCount (stateIn image); slice = overwrite (pageText (stateIn image) (day d)) out }
+      → PageReturning image d out x
+
+abbrev pub PageReturns : Type 0
+PageReturns = (image : List ℕ) (d : ℕ) (out : List ℕ) → PageReturning image d out (nodePage image d out)

@@ -1,3 +1,3 @@
--- The four calls for C.
+-- The calls for C.
 pub mod Calls
 pub mod Claims

@@ -1,4 +1,4 @@
-// The four calls for C: each is the call by value on the node of an image, with its answer as a number.
+// The calls for C: each is the call by value on the node of an image, with its answer as a number.
 ghost use mathlib.Core.Path.{_≡_};
 ghost use mathlib.Core.Bool.{true, cond};
 ghost use lib.Dec.{leb};
@@ -9,6 +9,7 @@ ghost use Rattle.checkpoint.specs.Layout.{checkpointSize};
 ghost use Rattle.image.specs.Layout.{imageSize};
 ghost use Rattle.image.specs.Image.{withOwn};
 ghost use Rattle.node_c.specs.Calls.{tryRoom, writesImage, return, nodeStart, nodeDeliver, nodeQuery, nodeCheckpoint};
+ghost use Rattle.node_c.specs.Calls.{pageReturned, nodePage};
 use checkpoint::layout::CHECKPOINT_SIZE;
 use image::is_image;
 use image::layout::IMAGE_SIZE;
@@ -18,8 +19,10 @@ use image::write_image;
 use node::CheckpointAnswer;
 use node::DeliverAnswer;
 use node::Node;
+use node::PageAnswer;
 use node::QueryAnswer;
 use node::StartAnswer;
+use state::Day;
 use verdicts::Own;
 
 // Each answer's number.
@@ -57,6 +60,16 @@ fn checkpoint_number(a: CheckpointAnswer) -> u32
     match a {
         CheckpointAnswer::Given => 0,
         CheckpointAnswer::Refused(k) => k as u32,
+    }
+}
+
+// The lines in the bits above the answer.
+fn page_number(a: PageAnswer) -> u32
+    ensures { λ r. ⌜ r ≡ pageReturned a ⌝ }
+{
+    match a {
+        PageAnswer::Given(lines) => 256 * (lines as u32),
+        PageAnswer::Refused(k) => k as u32,
     }
 }
 
@@ -168,6 +181,20 @@ pub extern "C" fn node_checkpoint(image: &[u8], out: &mut [u8]) -> u32
         let r = held.checkpoint(out);
         let answer = r.answer;
         return checkpoint_number(answer);
+    }
+    1
+}
+
+#[no_mangle]
+pub extern "C" fn node_page(image: &[u8], day: u32, out: &mut [u8]) -> u32
+    ensures { λ r. ⌜ r ≡ nodePage (now (image .entry)) day (now (out .entry)) .number ⌝ }
+    ensures { λ r. ⌜ now (out .exit) ≡ nodePage (now (image .entry)) day (now (out .entry)) .slice ⌝ }
+{
+    if is_image(image) {
+        let held = node_in(image);
+        let r = held.page(Day(day), out);
+        let answer = r.answer;
+        return page_number(answer);
     }
     1
 }

@@ -1,2 +1,2 @@
-// The four calls for C.
+// The calls for C.
 mod entries;

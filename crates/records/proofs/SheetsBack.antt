@@ -10,7 +10,7 @@ use borrow.Author.Tests.{eq-eqb, lt-ltb, le-leb}
 use Rattle.lists.specs.Fold.{all}
 use Rattle.binary.specs.Number.{toBytes, fromBytes, field}
 use Rattle.binary.specs.Codec.{encodeRows, decodeRows, FitsRows}
-use Rattle.binary.proofs.Codec.{Laws, read-back, byte-laws, number-laws, _⊗-laws_, onto-laws, rows-laws}
+use Rattle.binary.proofs.Codec.{Laws, read-back, byte-laws, number-laws, _⊗-laws_, onto-laws, rows-back}
 use Rattle.state.specs.Limits.{seatCount}
 use Rattle.records.specs.Sheet.{Row, row, rowsOf, isSheet, sheetOf}
 use Rattle.records.specs.Claims.{RowsAreSized, RowInRange, SheetsReadBack}
@@ -34,9 +34,9 @@ seats-below (r ∷ rs) h = rw (lt-ltb _ _ (h r (List·Memᴰ·head refl) .0)) (s
 pub sheets-read-back : SheetsReadBack
 unfolding sheetOf isSheet rowsOf toBytes fromBytes
 sheets-read-back mask1 mask2 rows n h =
-    let laws = rows-laws row-laws (length rows) in
-    let back : decodeRows row (length rows) (encodeRows row rows) ≡ rows = read-back laws rows (fit rows h) in
-    let long = laws .long rows (fit rows h) in
+    let back-laws = rows-back (row-laws .reads) (length rows) in
+    let back : decodeRows row (length rows) (encodeRows row rows) ≡ rows = read-back back-laws rows (fit rows h) in
+    let long = back-laws .long rows (fit rows h) in
     let size : length (sheetOf mask1 mask2 rows) ≡ 5 + 5 * length rows + 2 = omega arith in
     let told : field 2 0 (sheetOf mask1 mask2 rows) ≡ 5 + 5 * length rows = omega arith in
     record { well-formed = rw (le-leb _ _ n, back, seats-below rows h, eq-eqb _ _ size, eq-eqb _ _ told); first = refl; second = refl; read = back }

@@ -1,15 +1,14 @@
--- Lines: how long a word is, writes one after the other; bytes moved to the front.
+-- Lines: how long a word is; bytes moved to the front.
 use Prim.Native.Nat.{ℕ, _+_, _≤_, _<_}
 use native.Mathlib.Omega.{arith}
 use native.Mathlib.Nat.{zero-add}
-use mathlib.Core.Path.{_≡_, refl, sym, ap, subst, _∙_}
-use mathlib.Core.List.{List, _++_}
+use mathlib.Core.Path.{_≡_, sym, ap, subst, _∙_}
+use mathlib.Core.List.{List}
 use lib.ListN.{length, set, getD, take, drop, length-append, length-drop}
 use lib.Seq.{paste, length-take-le, drop-paste, getD-drop, getD-take}
 use Rattle.binary.specs.Number.{overwrite}
-use Rattle.binary.specs.Splice.{splice}
 use Rattle.binary.proofs.Copies.{Copied, copied-one, copied-all}
-use Rattle.binary.proofs.Splices.{Wrote, next-put, all-put, splice-overwrite}
+use Rattle.binary.proofs.Splices.{splice-overwrite}
 use Rattle.decimal.proofs.Stored.{length-decimal}
 use Rattle.requests.specs.declared.Answer.{Answer}
 use Rattle.requests.specs.declared.Answer.the-variants.{Started, Voted, Done, Open, No}
@@ -21,18 +20,6 @@ length-word Voted = omega arith
 length-word Done = omega arith
 length-word Open = omega arith
 length-word (No k) = rw length-append (omega (arith, length-decimal k))
-
--- ---- writes that answer where they end
-
-pub put-first : (d₀ d v : List ℕ) (at r : ℕ) → r ≡ at + length v → d ≡ splice d₀ at v → Wrote d₀ at r v d
-put-first d₀ d v at r e w = record { is = w; ends = sym e }
-
-pub put-next : (d₀ d d′ v w : List ℕ) (at k r : ℕ) → Wrote d₀ at k v d → k ≤ length d₀ → r ≡ k + length w → d′ ≡ splice d k w
-    → Wrote d₀ at r (v ++ w) d′
-put-next d₀ d d′ v w at k r h b e p = subst (λ (n : ℕ). Wrote d₀ at n (v ++ w) d′) (sym e) (next-put d₀ d d′ v w at k (length w) h p refl b)
-
-pub put-last : (d₀ d v u : List ℕ) (at r : ℕ) → Wrote d₀ at r v d → v ≡ u → (r ≡ at + length u) × (d ≡ splice d₀ at u)
-put-last d₀ d v u at r h e = (sym (h .ends) ∙ ap (λ (l : List ℕ). at + length l) e, all-put d₀ d v u at r h e)
 
 -- ---- bytes moved to the front of the list that they stand in
 

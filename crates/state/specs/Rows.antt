@@ -28,6 +28,10 @@ isEnded t r = isBeforeDay (r .end) t
 abbrev pub isSilent : Day → ℕ → Day → Bool
 isSilent agreed S t = ltb S (daysSince t agreed)
 
--- "right 1 (0 to 15)" of the login's 16 rights: bit `right` is 1
+-- bit `right` of the rights is 1
+abbrev pub isHeld : ℕ → ℕ → Bool
+isHeld right rights = eqb (rights / 2 ^ right % 2) 1
+
+-- "right 1 (0 to 15)" of the login's 16 rights
 abbrev pub holdsRight : ℕ → Login → Bool
-holdsRight right r = eqb (r .rights / 2 ^ right % 2) 1
+holdsRight right r = isHeld right (r .rights)

@@ -9,7 +9,7 @@ pub mod well_formed;
 ghost use mathlib.Core.Path.{_≡_};
 ghost use Rattle.state.specs.Time.{isBeforeDay, isSameDay, daysSince, laterDay, isBeforeCycle, isSameCycle, cyclesSince, nextCycle};
 ghost use Rattle.state.specs.WellFormed.{blankState};
-ghost use Rattle.state.specs.Rows.{isProposal, isLogin, isEnded, holdsRight, isSilent};
+ghost use Rattle.state.specs.Rows.{isProposal, isLogin, isEnded, isHeld, holdsRight, isSilent};
 use crate::limits::LAST_CYCLE;
 use crate::limits::LOGIN_ROWS;
 use crate::limits::PROPOSAL_ROWS;
@@ -181,15 +181,21 @@ impl Login {
         end.is_before(t)
     }
 
-    // Bit `right` of the rights. No login has a right beyond the last.
     pub fn holds_right(self, right: u8) -> bool
         ensures { λ r. ⌜ r ≡ holdsRight right self ⌝ }
     {
-        if RIGHTS <= right {
-            return false;
-        }
-        (self.rights >> (right as u16)) % 2 == 1
+        is_held(self.rights, right)
     }
+}
+
+// Bit `right` of the rights. No login has a right beyond the last.
+pub fn is_held(rights: u16, right: u8) -> bool
+    ensures { λ r. ⌜ r ≡ isHeld right rights ⌝ }
+{
+    if RIGHTS <= right {
+        return false;
+    }
+    (rights >> (right as u16)) % 2 == 1
 }
 
 // Whether a state of this agreed day and silence limit is silent on day t.

@@ -7,7 +7,7 @@ use mathlib.Core.List.{List}
 use lib.ListN.{length, getD, set, take, drop, drop-of-length-le}
 use lib.Seq.{drop-cons, take-suc, take-suc-set, take-all}
 use borrow.Author.Tests.{eq-eqb, ne-eqb}
-use Rattle.verdicts.specs.Own.{isSameBytes}
+use Rattle.binary.specs.Number.{isSameBytes}
 
 module _ (a b : List ℕ) (i : ℕ) where
   pub same-pass : i < length a → i < length b → getD a i 0 ≡ getD b i 0 → isSameBytes (drop i a) (drop i b) ≡ isSameBytes (drop (i + 1) a)

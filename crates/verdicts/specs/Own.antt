@@ -1,9 +1,10 @@
 -- "Own part: seat, life, the announcement voted for in this cycle if any, misses (0 to 10)."
 use Prim.Native.Nat.{ℕ}
-use mathlib.Core.List.{List, [], _∷_}
+use mathlib.Core.List.{List}
 use mathlib.Core.Bool.{Bool, true, false, not, _&&_}
 use lib.Dec.{eqb}
 use lib.ListN.{replicate}
+use Rattle.binary.specs.Number.{isSameBytes}
 use Rattle.state.specs.declared.Seat.{Seat}
 use Rattle.state.specs.declared.State.{State}
 use Rattle.state.specs.Seats.{retired, seatAt, isPresent}
@@ -24,12 +25,6 @@ isHalted s o = eqb (heldSeat s o .standing) retired
 -- "own seat not present or own life not listed" does not apply
 abbrev pub canVote : State → Own → Bool
 canVote s o = isPresent (heldSeat s o) && eqb (heldSeat s o .life) (o .life)
-
-unfoldable pub isSameBytes : List ℕ → List ℕ → Bool
-isSameBytes [] [] = true
-isSameBytes [] (y ∷ ys) = false
-isSameBytes (x ∷ xs) [] = false
-isSameBytes (x ∷ xs) (y ∷ ys) = eqb x y && isSameBytes xs ys
 
 -- "voted for other bytes this cycle"
 abbrev pub votedOtherwise : Own → List ℕ → Bool

@@ -2,8 +2,9 @@
 ghost use mathlib.Core.Path.{_≡_};
 ghost use mathlib.Core.Bool.{true};
 ghost use lib.ListN.{length};
+ghost use Rattle.binary.specs.Number.{isSameBytes};
 ghost use Rattle.records.specs.Layout.{announcementSize};
-ghost use Rattle.verdicts.specs.Own.{heldSeat, isHalted, canVote, isSameBytes, votedOtherwise, ownAfresh, withVote, withMisses};
+ghost use Rattle.verdicts.specs.Own.{heldSeat, isHalted, canVote, votedOtherwise, ownAfresh, withVote, withMisses};
 use crate::Own;
 use records::layout::ANNOUNCEMENT_SIZE;
 use state::Seat;

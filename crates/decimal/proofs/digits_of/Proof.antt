@@ -1,7 +1,5 @@
 use Rattle.decimal.proofs.Stored.{Stored, stored-none, stored-one, stored-all}
-use lib.ListN.{length-set}
 use native.Mathlib.Omega.{arith}
-use borrow.Author.Needs.{needs}
 use Rattle.decimal.proofs.digits_of.Statement.{statement}
 use Rattle.decimal.proofs.digits_of.Tie as tie
 
@@ -12,7 +10,7 @@ abbrev μ-loop : tie.MeasureT-loop
 μ-loop x bytes₀ from₀ rest₀ bytes from rest = from
 
 loop-holds : tie.Need-loop-holds Inv-loop μ-loop
-loop-holds c = stored-none _ _ (search needs)
+loop-holds c = stored-none _
 
 sub-from : tie.Need-sub-from Inv-loop μ-loop
 sub-from c = omega arith
@@ -45,7 +43,7 @@ array-write-bytes-2 : tie.Need-array-write-bytes-2 Inv-loop μ-loop
 array-write-bytes-2 c = omega arith
 
 returns : tie.Need-returns Inv-loop μ-loop
-returns c = let h = c .before .loop .inv in (stored-all _ _ _ _ h (c .loop-test .left), (simp length-set (h .size), omega arith))
+returns c = stored-all _ _ _ _ (c .before .loop .inv) (c .loop-test .left)
 
 pub digits-of-spec : {M : Type 1} → statement M
 digits-of-spec =

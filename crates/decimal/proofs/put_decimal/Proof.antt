@@ -1,5 +1,4 @@
-use Rattle.decimal.proofs.Stored.{part-of}
-use Rattle.decimal.specs.Decimal.{mostDigits}
+use Rattle.decimal.proofs.Texts.{all-places, all-digits}
 use borrow.Author.Needs.{needs}
 use Rattle.decimal.proofs.put_decimal.Statement.{statement}
 use Rattle.decimal.proofs.put_decimal.Tie as tie
@@ -14,7 +13,10 @@ part-put-bytes-start : tie.Need-part-put-bytes-start
 part-put-bytes-start c = search needs
 
 part-put-bytes-end : tie.Need-part-put-bytes-end
-part-put-bytes-end c = search needs
+part-put-bytes-end c =
+    let h = c .before .before .before .digits-of .ensures in
+    let l = all-places _ _ _ (h .0) (h .1) in
+    search needs
 
 put-bytes-requires : tie.Need-put-bytes-requires
 put-bytes-requires c κs = search needs
@@ -26,7 +28,7 @@ returns : tie.Need-returns
 returns c =
     let p = c .before .before in
     let h = p .before .before .before .before .before .digits-of .ensures in
-    rw (part-of mostDigits _ _ (h .1 .0), h .0) at (p .put-bytes .ensures)
+    rw (all-digits _ _ _ (h .0) (h .1)) at (p .put-bytes .ensures)
 
 pub put-decimal-spec : {M : Type 1} → statement M
 put-decimal-spec =

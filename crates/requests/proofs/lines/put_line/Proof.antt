@@ -1,8 +1,8 @@
-use Rattle.requests.proofs.Writing.{length-word, put-first, put-next, put-last}
+use Rattle.requests.proofs.Writing.{length-word}
 use Rattle.requests.specs.Lines.{wordOf, lineOf}
 use Rattle.decimal.specs.Decimal.{decimal}
 use Rattle.decimal.proofs.Stored.{length-decimal}
-use Rattle.binary.proofs.Splices.{lefts-rights}
+use Rattle.binary.proofs.Splices.{put-first, put-next, put-last, lefts-rights}
 use mathlib.Core.List.{[], _∷_}
 use denote.Ref.{now}
 use native.Mathlib.Omega.{arith}

@@ -1,7 +1,6 @@
-use Rattle.requests.proofs.Writing.{put-first, put-next, put-last}
 use Rattle.decimal.specs.Decimal.{decimal}
 use Rattle.decimal.proofs.Stored.{length-decimal}
-use Rattle.binary.proofs.Splices.{lefts-rights}
+use Rattle.binary.proofs.Splices.{put-first, put-next, put-last, lefts-rights}
 use mathlib.Core.List.{[], _∷_}
 use denote.Ref.{now}
 use native.Mathlib.Omega.{arith}

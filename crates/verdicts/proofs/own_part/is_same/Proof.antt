@@ -5,7 +5,7 @@ use lib.ListN.{length, drop}
 use borrow.Author.Needs.{needs}
 use denote.Ref.{now}
 use Rattle.records.specs.Layout.{announcementSize}
-use Rattle.verdicts.specs.Own.{isSameBytes}
+use Rattle.binary.specs.Number.{isSameBytes}
 use Rattle.verdicts.proofs.VoteBytes.{same-pass, same-fail, same-end}
 use Rattle.verdicts.proofs.own_part.is_same.Statement.{statement}
 use Rattle.verdicts.proofs.own_part.is_same.Tie as tie

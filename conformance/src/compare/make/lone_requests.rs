@@ -60,10 +60,11 @@ fn any_request(rng: &mut Random, state: &StateFields, own: &OwnFields) -> Reques
     if rng.chance(8) {
         image = spoiled(rng, state, own);
     }
-    let mut records = match rng.below(20) {
+    let mut records = match rng.below(22) {
         0..=10 => deliver(rng, state, own),
         11..=14 => Records::Query(starts_queries::query(rng, state)),
         15..=18 => start(rng, state),
+        19 | 20 => starts_queries::page(rng, state),
         _ => Records::Checkpoint,
     };
     if rng.chance(8) {
@@ -72,7 +73,7 @@ fn any_request(rng: &mut Random, state: &StateFields, own: &OwnFields) -> Reques
     if matches!(records, Records::Start(..)) {
         image.clear();
     }
-    let out = starts_queries::out_length(rng, records.size(), 4);
+    let out = starts_queries::out_length(rng, records.size(&image), 4);
     Request {
         image,
         records,
@@ -115,6 +116,6 @@ fn damage(rng: &mut Random, records: &mut Records) {
         Records::Deliver(announcement, _) if rng.chance(50) => malformed::bytes(rng, announcement),
         Records::Deliver(_, sheet) => malformed::sheet(rng, sheet),
         Records::Query(query) => malformed::bytes(rng, query),
-        Records::Checkpoint => {}
+        Records::Checkpoint | Records::Page(_) => {}
     }
 }

@@ -1,7 +1,7 @@
 //! A kept case run again and shown step by step, in the words of `records`.
 
 use super::kept_case::{words_of, Case};
-use crate::compare::call::{Event, History, Request};
+use crate::compare::call::{Event, History, Outcome, Records, Request};
 use crate::compare::check::second::Second;
 use crate::compare::check::{one_call, program, rerun};
 use crate::compare::fields::{OwnFields, StateFields};
@@ -43,7 +43,7 @@ fn replay_history(second: &'static Second, history: &History) -> Result<(), Stri
     let mut show_call = |place: usize, event: Option<&Event>| {
         title(place);
         match event {
-            Some(event) => println!("Answer {}{}", event.outcome.number, held(event)),
+            Some(event) => println!("{}{}", answered(&event.outcome), held(event)),
             None => println!("Not made: the host holds no node"),
         }
     };
@@ -58,9 +58,21 @@ fn replay_history(second: &'static Second, history: &History) -> Result<(), Stri
     Ok(())
 }
 
-/// What the node holds after a call, or the checkpoint that it gave.
+/// The answer, and the count where there is one.
+fn answered(outcome: &Outcome) -> String {
+    match outcome.count {
+        0 => format!("Answer {}", outcome.number),
+        count => format!("Answer {}, count {count}", outcome.number),
+    }
+}
+
+/// What the node holds after a call, or the checkpoint or page that it gave.
 fn held(event: &Event) -> String {
     let after = event.outcome.written.as_ref();
+    if matches!(event.request.records, Records::Page(_)) {
+        let lines = program::lines(after.map_or(&[], Vec::as_slice));
+        return lines.iter().map(|line| format!("\n  {line}")).collect();
+    }
     let image = after.unwrap_or(&event.request.image);
     match (StateFields::read(image), OwnFields::read(image)) {
         (Some(state), Some(own)) => {
@@ -80,7 +92,7 @@ fn replay_single(second: &Second, request: &Request) -> Result<(), String> {
     }
     print!("The records:\n{}", words_of(&request.records));
     let outcome = one_call::compare_all(second, request)?;
-    println!("Answer {}", outcome.number);
+    println!("{}", answered(&outcome));
     Ok(())
 }
 

@@ -1,6 +1,6 @@
 //! The records of document 01 as one table: the fields of each in the order of their bytes, their
-//! sizes, places and ranges. What writes, shows and damages records takes them from here; the
-//! second implementation and the version for speed have their own.
+//! sizes, places and ranges; and the line of a page. What writes, shows and damages records takes
+//! them from here; the second implementation and the version for speed have their own.
 
 /// How a field's value stands in the text.
 #[derive(Debug, Clone, Copy, PartialEq, Eq)]

@@ -91,15 +91,24 @@ impl Stages {
         Ok(())
     }
 
+    fn single(&mut self, request: Request) -> Result<(), Found> {
+        self.request(&request).map_err(|what| Found {
+            case: Case::Single(request),
+            what,
+        })
+    }
+
+    /// Pages with every date.
+    pub fn dates(&mut self) -> Result<(), Found> {
+        lone_requests::dates().try_for_each(|request| self.single(request))
+    }
+
     /// Requests that stand alone, until so many calls were made in all.
     pub fn lone_requests(&mut self, rng: &mut Random, until: u64) -> Result<(), Found> {
         let mut requests = lone_requests::ends();
         while self.coverage.calls < until {
             for request in requests {
-                self.request(&request).map_err(|what| Found {
-                    case: Case::Single(request),
-                    what,
-                })?;
+                self.single(request)?;
             }
             requests = lone_requests::requests(rng);
         }

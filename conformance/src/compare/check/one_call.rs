@@ -3,7 +3,7 @@
 use super::second::{ByValue, Second};
 use crate::archive;
 use crate::compare::call::{answer_in, count_in, Outcome, Records, Request, ARCHIVE};
-use crate::layout::CHECKPOINT_SIZE;
+use crate::layout::{CHECKPOINT_SIZE, LINE_SIZE};
 use std::panic::{catch_unwind, AssertUnwindSafe};
 
 /// Bytes before and behind the output slice that no call may touch. Odd, since a slice may have any
@@ -28,11 +28,11 @@ pub fn compare(second: &Second, request: &Request) -> Result<Outcome, String> {
     }
     let (number, count) = (answer_in(returned), count_in(returned));
     if let Some(at) = (0..before.len()).find(|&at| proved[at] != other[at]) {
-        let place = at as i64 - GUARD as i64;
-        return Err(format!(
-            "answer {number}: output byte {place} is {} from archive, {} from paper",
-            proved[at], other[at]
-        ));
+        let what = match records {
+            Records::Page(_) => other_line(at, &proved, &other),
+            _ => other_byte(at, &proved, &other),
+        };
+        return Err(format!("answer {number}: {what}"));
     }
     let writes = records.writes(number);
     let size = if writes { request.size() } else { 0 };
@@ -46,6 +46,22 @@ pub fn compare(second: &Second, request: &Request) -> Result<Outcome, String> {
         count,
         written,
     })
+}
+
+/// That two outputs differ in a byte.
+fn other_byte(at: usize, proved: &[u8], other: &[u8]) -> String {
+    let place = at as i64 - GUARD as i64;
+    let (archive, paper) = (proved[at], other[at]);
+    format!("output byte {place} is {archive} from archive, {paper} from paper")
+}
+
+/// The same, with the line of a page in which the byte lies, whatever else may stand there.
+fn other_line(at: usize, proved: &[u8], other: &[u8]) -> String {
+    let first = at.saturating_sub(GUARD) / LINE_SIZE * LINE_SIZE + GUARD;
+    let end = proved.len().min(first + LINE_SIZE);
+    let line = |bytes: &[u8]| bytes[first..end].escape_ascii().to_string();
+    let what = other_byte(at, proved, other);
+    format!("{what}, in \"{}\" and \"{}\"", line(proved), line(other))
 }
 
 /// What a call returned.

@@ -79,7 +79,7 @@ const CALENDAR: [u32; 12] = [
     58, 59, 788, 789, 790, 11015, 11016, 11017, 47480, LAST_DATE, 47482, 47540,
 ];
 /// 2099-12-31
-const LAST_DATE: u32 = 47_481;
+pub const LAST_DATE: u32 = 47_481;
 
 /// End days around a day and around the silence limit after it, and days whose dates are hard.
 pub fn end_day(rng: &mut Random, state: &StateFields, day: u32) -> u32 {

@@ -43,7 +43,7 @@ fn replay_history(second: &'static Second, history: &History) -> Result<(), Stri
     let mut show_call = |place: usize, event: Option<&Event>| {
         title(place);
         match event {
-            Some(event) => println!("{}{}", answered(&event.outcome), held(event)),
+            Some(event) => println!("{}{}", answered(&event.outcome), left(event)),
             None => println!("Not made: the host holds no node"),
         }
     };
@@ -66,13 +66,24 @@ fn answered(outcome: &Outcome) -> String {
     }
 }
 
-/// What the node holds after a call, or the checkpoint or page that it gave.
+/// What a call left: what the node holds after it, or the checkpoint or page that it gave.
+fn left(event: &Event) -> String {
+    match event.request.records {
+        Records::Page(_) => page(&event.outcome),
+        _ => held(event),
+    }
+}
+
+/// The lines of a page, if one was given.
+fn page(outcome: &Outcome) -> String {
+    let written = outcome.written.as_deref().unwrap_or_default();
+    let lines = program::lines(written).into_iter();
+    let lines = lines.take(outcome.count as usize);
+    lines.map(|line| format!("\n  {line}")).collect()
+}
+
 fn held(event: &Event) -> String {
     let after = event.outcome.written.as_ref();
-    if matches!(event.request.records, Records::Page(_)) {
-        let lines = program::lines(after.map_or(&[], Vec::as_slice));
-        return lines.iter().map(|line| format!("\n  {line}")).collect();
-    }
     let image = after.unwrap_or(&event.request.image);
     match (StateFields::read(image), OwnFields::read(image)) {
         (Some(state), Some(own)) => {
@@ -92,7 +103,7 @@ fn replay_single(second: &Second, request: &Request) -> Result<(), String> {
     }
     print!("The records:\n{}", words_of(&request.records));
     let outcome = one_call::compare_all(second, request)?;
-    println!("{}", answered(&outcome));
+    println!("{}{}", answered(&outcome), page(&outcome));
     Ok(())
 }
 

@@ -48,8 +48,7 @@ fn date(end: Day) -> String {
     format!("{year:04}-{month:02}-{day:02}")
 }
 
-/// The year of a day, and how many days of the year come before it. "A day is a 32-bit count from
-/// 1970-01-01".
+/// The year of a day, counted from 1970-01-01, and how many days of the year come before it.
 fn year(day: Day) -> (i64, i64) {
     let mut rest = day.since(Day::new(0));
     let mut year = 1970;

@@ -9,25 +9,27 @@
 #include <ucontext.h>
 
 /* NONE makes no call: it shows what a call would find in use. */
-enum call { START, DELIVER, QUERY, CHECKPOINT, NONE, CALLS = NONE };
+enum call { START, DELIVER, QUERY, CHECKPOINT, PAGE, NONE, CALLS = NONE };
 
 /* SPARE is what access_node.h promises to leave between the measured and the stated use. */
 enum { INPUTS = 3, LONGEST = 65537, STACK = 65536, FILL = 0xA5, SPARE = 512 };
 
-static const char *const names[CALLS] = {"node_start", "node_deliver", "node_query", "node_checkpoint"};
-static const size_t input_counts[CALLS] = {2, 3, 2, 1};
+static const char *const names[CALLS] = {"node_start", "node_deliver", "node_query", "node_checkpoint", "node_page"};
+static const size_t input_counts[CALLS] = {2, 3, 2, 1, 1};
 static const size_t stated[CALLS] = {
     [START] = ACCESS_NODE_STACK_START,
     [DELIVER] = ACCESS_NODE_STACK_DELIVER,
     [QUERY] = ACCESS_NODE_STACK_QUERY,
     [CHECKPOINT] = ACCESS_NODE_STACK_CHECKPOINT,
+    [PAGE] = ACCESS_NODE_STACK_PAGE,
 };
 
-/* The call at hand. */
+/* The call at hand; the output slice has room for every call, the page of a full list the most. */
 static enum call call;
 static uint8_t in[INPUTS][LONGEST];
 static size_t length[INPUTS];
-static uint8_t out[ACCESS_NODE_IMAGE_SIZE];
+static uint32_t day;
+static uint8_t out[ACCESS_NODE_PAGE_SIZE(ACCESS_NODE_MOST_LOGINS)];
 static size_t room;
 
 static uint8_t stack[STACK];
@@ -43,6 +45,8 @@ static void make(void) {
         node_query(in[0], length[0], in[1], length[1], out, room);
     else if (call == CHECKPOINT)
         node_checkpoint(in[0], length[0], out, room);
+    else if (call == PAGE)
+        node_page(in[0], length[0], day, out, room);
 }
 
 static void make_on_stack(void) {
@@ -97,14 +101,18 @@ static void measure_all(void) {
     }
 }
 
-/* The next call: its number, three lengths, then the slices. 0 at the end of the input. */
+static uint32_t number_at(const uint8_t *bytes) {
+    return bytes[0] | (uint32_t)bytes[1] << 8 | (uint32_t)bytes[2] << 16 | (uint32_t)bytes[3] << 24;
+}
+
+/* The next call: its number, three lengths, then the slices; the day of a page stands as a second slice. 0 at the end of the input. */
 static int read_call(void) {
     uint8_t head[4 * (1 + INPUTS)];
     size_t numbers[1 + INPUTS], got = fread(head, 1, sizeof head, stdin);
     if (got == 0 && feof(stdin))
         return 0;
     for (size_t i = 0; i <= INPUTS; i++)
-        numbers[i] = head[4 * i] | head[4 * i + 1] << 8 | (size_t)head[4 * i + 2] << 16 | (size_t)head[4 * i + 3] << 24;
+        numbers[i] = number_at(&head[4 * i]);
     int good = got == sizeof head && numbers[0] < CALLS;
     for (size_t i = 0; good && i < INPUTS; i++) {
         length[i] = numbers[1 + i];
@@ -115,6 +123,7 @@ static int read_call(void) {
         exit(2);
     }
     call = (enum call)numbers[0];
+    day = number_at(in[1]);
     return 1;
 }
 
@@ -133,7 +142,7 @@ int main(void) {
     int good = 1;
     for (size_t c = 0; c < CALLS; c++)
         good &= is_stated((enum call)c);
-    printf("stack use over %zu calls: start %zu, deliver %zu, query %zu, checkpoint %zu bytes\n", calls, deepest[START], deepest[DELIVER],
-           deepest[QUERY], deepest[CHECKPOINT]);
+    printf("stack use over %zu calls: start %zu, deliver %zu, query %zu, checkpoint %zu, page %zu bytes\n", calls, deepest[START],
+           deepest[DELIVER], deepest[QUERY], deepest[CHECKPOINT], deepest[PAGE]);
     return !good;
 }

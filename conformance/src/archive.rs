@@ -42,6 +42,13 @@ mod c {
             checkpoint_out: *mut u8,
             checkpoint_out_length: usize,
         ) -> u32;
+        pub fn node_page(
+            image: *const u8,
+            image_length: usize,
+            day: u32,
+            page_out: *mut u8,
+            page_out_length: usize,
+        ) -> u32;
     }
 }
 
@@ -62,10 +69,11 @@ mod c {
         node_deliver: *const u8, usize, *const u8, usize, *const u8, usize, *mut u8, usize;
         node_query: *const u8, usize, *const u8, usize, *mut u8, usize;
         node_checkpoint: *const u8, usize, *mut u8, usize;
+        node_page: *const u8, usize, u32, *mut u8, usize;
     }
 }
 
-// Why the four calls are sound: the header (access_node.h) asks for non-null pointers of the given
+// Why the five calls are sound: the header (access_node.h) asks for non-null pointers of the given
 // lengths, also where a length is 0, and for slices that do not overlap. A pointer taken from a
 // Rust slice is never null and is good for the slice's length. `out` is borrowed exclusively, so it
 // shares no byte with an input. The calls keep no pointer, so nothing outlives the borrows.
@@ -113,4 +121,16 @@ pub fn node_query(image: &[u8], query: &[u8], out: &mut [u8]) -> u32 {
 
 pub fn node_checkpoint(image: &[u8], out: &mut [u8]) -> u32 {
     unsafe { c::node_checkpoint(image.as_ptr(), image.len(), out.as_mut_ptr(), out.len()) }
+}
+
+pub fn node_page(image: &[u8], day: u32, out: &mut [u8]) -> u32 {
+    unsafe {
+        c::node_page(
+            image.as_ptr(),
+            image.len(),
+            day,
+            out.as_mut_ptr(),
+            out.len(),
+        )
+    }
 }

@@ -1,4 +1,4 @@
-//! The corpus: requests as text, each with the answer that document 01 gives it, through the
+//! The corpus: requests as text, each with the answer that the papers give it, through the
 //! archive, the second implementation and node-run. corpus/README.md describes the text.
 //!
 //! `file` reads a file to requests, `walk` hands the image from call to call, `make` makes one call

@@ -1,5 +1,5 @@
 //! The planted faults, and the copy of `paper` in which the build put them behind a switch: wrong
-//! readings of document 01, one at a time, that a comparison must find. conformance/faults says what
+//! readings of the papers, one at a time, that a comparison must find. conformance/faults says what
 //! each changes.
 
 use std::cell::Cell;

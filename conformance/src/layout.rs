@@ -1,6 +1,6 @@
 //! The records of document 01 as one table: the fields of each in the order of their bytes, their
-//! sizes, places and ranges. What writes, shows and damages records takes them from here; the
-//! second implementation and the version for speed have their own.
+//! sizes, places and ranges; and the line of a page. What writes, shows and damages records takes
+//! them from here; the second implementation and the version for speed have their own.
 
 /// How a field's value stands in the text.
 #[derive(Debug, Clone, Copy, PartialEq, Eq)]
@@ -190,6 +190,10 @@ pub const VOTED_AT: usize = CHECKPOINT_SIZE + size(&OWN);
 pub const VOTE: std::ops::Range<usize> = VOTED_AT + 1..VOTED_AT + 1 + ANNOUNCEMENT_SIZE;
 pub const MISSES_AT: usize = VOTE.end;
 pub const IMAGE_SIZE: usize = MISSES_AT + MISSES.size;
+/// A line of a page: "46 characters and a line feed" (request A1).
+pub const LINE_SIZE: usize = 47;
+/// Where the word of a line stands, padded.
+pub const WORD: std::ops::Range<usize> = 39..46;
 
 pub const fn size(fields: &[Field]) -> usize {
     let (mut size, mut place) = (0, 0);
@@ -205,6 +209,11 @@ pub fn number_at(bytes: &[u8], at: usize, size: usize) -> u32 {
     let end = bytes.len().min(at + size);
     let field = bytes[at.min(end)..end].iter().rev();
     field.fold(0, |n, byte| n << 8 | u32::from(*byte))
+}
+
+/// The lines of an image's page: the number of its logins.
+pub fn lines(image: &[u8]) -> usize {
+    number_at(image, LOGINS.count_at(), 1) as usize
 }
 
 /// A record's kind.

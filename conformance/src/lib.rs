@@ -1,5 +1,4 @@
-//! What shows that the shipped archive does as document 01 says and how fast, and its records as
-//! text. conformance/README.md says what is where.
+//! What shows that the shipped archive does as the papers say and how fast, and its records as text. conformance/README.md says what is where.
 
 pub mod archive;
 pub mod bench;

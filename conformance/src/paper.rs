@@ -1,6 +1,7 @@
-//! Document 01 in plain Rust: a second access node, written from the text alone.
+//! Document 01 and the change requests (02) that have landed in plain Rust: a second access node,
+//! written from the texts alone.
 //!
-//! A passage in quotation marks is the document's own.
+//! A passage in quotation marks is a text's own; where no request is named, document 01's.
 
 pub mod actions;
 pub mod announcement;
@@ -8,6 +9,7 @@ pub mod bytes;
 pub mod checkpoint;
 pub mod image;
 pub mod node;
+pub mod page;
 pub mod query;
 pub mod records;
 pub mod rules;
@@ -25,7 +27,7 @@ pub enum Answer {
     Voted,
     Done,
     Open,
-    /// A checkpoint was given.
+    /// A checkpoint or a page was given.
     Given,
     /// A number of the table of no.
     No(u8),

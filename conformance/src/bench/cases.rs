@@ -1,6 +1,6 @@
 //! The measured calls, on a full state and on a small one.
 
-use crate::compare::call::{Records, VOTED};
+use crate::compare::call::{given, Records, VOTED};
 use crate::compare::fields::{Login, OwnFields, Proposal, Seat, StateFields, FREE, PRESENT};
 use crate::compare::make::records;
 
@@ -8,8 +8,8 @@ pub struct Case {
     pub name: &'static str,
     pub image: Vec<u8>,
     pub records: Records,
-    /// What the call answers.
-    pub number: u32,
+    /// What the call returns.
+    pub returned: u32,
 }
 
 const CYCLE: u32 = 1_000;
@@ -77,6 +77,7 @@ impl Size {
             self.case("query: no 19", query(7, DAY), 19),
             self.case("query: no 18", query(500, DAY + 31), 18),
             self.case("checkpoint", Records::Checkpoint, 0),
+            self.case("page", Records::Page(DAY), given(self.logins as usize)),
         ]
     }
 
@@ -91,12 +92,12 @@ impl Size {
         own.image(&self.state())
     }
 
-    fn case(&self, name: &'static str, records: Records, number: u32) -> Case {
+    fn case(&self, name: &'static str, records: Records, returned: u32) -> Case {
         Case {
             name,
             image: self.image(),
             records,
-            number,
+            returned,
         }
     }
 

@@ -4,7 +4,7 @@ use super::cases::Case;
 use super::tuned;
 use crate::compare::call::{Calls, ARCHIVE};
 use crate::compare::PAPER;
-pub use crate::layout::IMAGE_SIZE;
+use crate::layout::{LINE_SIZE, LOGINS};
 use std::hint::black_box;
 use std::time::Instant;
 
@@ -17,7 +17,11 @@ pub const TUNED: Calls = Calls {
     deliver: tuned::node_deliver,
     query: tuned::node_query,
     checkpoint: tuned::node_checkpoint,
+    page: tuned::node_page,
 };
+
+/// An output slice that has room in every case: for the page of a full list.
+pub const OUT_SIZE: usize = LINE_SIZE * LOGINS.most;
 
 const ROUNDS: usize = 200;
 const CALLS_PER_ROUND: u32 = 500;
@@ -42,10 +46,10 @@ fn round(subject: &mut dyn FnMut()) -> f64 {
     begin.elapsed().as_secs_f64() * 1e9 / f64::from(CALLS_PER_ROUND)
 }
 
-/// The case once through the calls, its output slice not cleared. Panics where the answer is another.
+/// The case once through the calls, its output slice not cleared. Panics where it returns another number.
 pub fn make(calls: &Calls, case: &Case, out: &mut [u8]) {
-    let number = calls.make(black_box(&case.image), black_box(&case.records), out);
-    assert_eq!(number, case.number, "{} by {}", case.name, calls.name);
+    let returned = calls.make(black_box(&case.image), black_box(&case.records), out);
+    assert_eq!(returned, case.returned, "{} by {}", case.name, calls.name);
     black_box(out);
 }
 

@@ -1,4 +1,4 @@
-//! Document 01 once more, written for speed alone: what the bench measures the archive against. It
+//! Document 01 and request A1 once more, written for speed alone: what the bench measures the archive against. It
 //! exists for the bench and may be dropped with it.
 //!
 //! No heap: a node is one struct on the stack, read and checked in one pass over the image. The rules
@@ -10,11 +10,13 @@ mod announcement;
 mod bytes;
 mod calls;
 mod image;
+mod page;
 mod records;
 mod rules;
 mod state;
 
 pub use calls::{node_checkpoint, node_deliver, node_query, node_start};
+pub use page::node_page;
 
 #[cfg(test)]
 mod tests;

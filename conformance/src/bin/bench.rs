@@ -2,7 +2,7 @@
 //! the version written for speed, and the ratios.
 
 use conformance::bench::cases::{Case, Size, FULL, SMALL};
-use conformance::bench::measure::{copy, least, make, IMAGE_SIZE, VERSIONS};
+use conformance::bench::measure::{copy, least, make, OUT_SIZE, VERSIONS};
 use conformance::command_line::Program;
 use std::process::ExitCode;
 
@@ -20,6 +20,7 @@ start
 deliver: remove done, deliver: grant done, deliver: end done, deliver: grant voted, deliver: end no 13
 query: open, query: no 19, query: no 18
 checkpoint
+page
 
 Exit status: 0; 2 wrong use, or the archive is missing.
 ",
@@ -64,7 +65,7 @@ fn repeat<'a>(
     let case = found.ok_or(case)?;
     let found = VERSIONS.iter().find(|known| known.name == version);
     let version = found.ok_or(version)?;
-    let mut out = [0; IMAGE_SIZE];
+    let mut out = [0; OUT_SIZE];
     for _ in 0..count.parse::<u64>().map_err(|_| count)? {
         make(version, case, &mut out);
     }
@@ -83,7 +84,7 @@ fn print_table() {
 }
 
 fn print_case(size: &Size, case: &Case) {
-    let mut outs = [[0; IMAGE_SIZE]; 3];
+    let mut outs = [[0; OUT_SIZE]; 3];
     let [first, second, third] = &mut outs;
     let [archive, paper, tuned] = least([
         &mut || make(&VERSIONS[0], case, first),
@@ -102,6 +103,6 @@ fn print_case(size: &Size, case: &Case) {
 
 fn copy_time() -> f64 {
     let image = FULL.image();
-    let (mut between, mut out) = ([0; IMAGE_SIZE], [0; IMAGE_SIZE]);
+    let (mut between, mut out) = (image.clone(), image.clone());
     least([&mut || copy(&image, &mut between, &mut out)])[0]
 }

@@ -1,10 +1,10 @@
-//! Calls: their inputs, their output slices, what of it they write, and the four functions of an
+//! Calls: their inputs, their output slices, what of it they write, and the five functions of an
 //! implementation that make them.
 
 use crate::archive;
-use crate::layout::{CHECKPOINT_SIZE, IMAGE_SIZE};
+use crate::layout::{self, CHECKPOINT_SIZE, IMAGE_SIZE, LINE_SIZE};
 
-/// The records handed to a call at a host.
+/// What is handed to a call at a host beside the image: records, or the day of a page.
 #[derive(Clone, PartialEq, Debug)]
 pub enum Records {
     /// A checkpoint and a start.
@@ -13,6 +13,7 @@ pub enum Records {
     Deliver(Vec<u8>, Vec<u8>),
     Query(Vec<u8>),
     Checkpoint,
+    Page(u32),
 }
 
 /// A call of a history: at a host, with an output slice of `out` bytes.
@@ -39,10 +40,11 @@ pub struct Request {
     pub out: usize,
 }
 
-/// What a call answered, and the image or checkpoint that it wrote.
+/// What a call answered, the count that it gave, and the image, checkpoint or page that it wrote.
 #[derive(Clone, PartialEq, Debug)]
 pub struct Outcome {
     pub number: u32,
+    pub count: u32,
     pub written: Option<Vec<u8>>,
 }
 
@@ -54,7 +56,7 @@ pub struct Event {
 
 pub const VOTED: u32 = 128;
 
-pub const CALLS: [&str; 4] = ["start", "deliver", "query", "checkpoint"];
+pub const CALLS: [&str; 5] = ["start", "deliver", "query", "checkpoint", "page"];
 
 /// The answers that each call can give, in the order of `CALLS`.
 pub fn possible_answers(call: usize) -> Vec<u32> {
@@ -62,12 +64,29 @@ pub fn possible_answers(call: usize) -> Vec<u32> {
         0 => vec![0, 1, 9, 14, 22],
         1 => (0..=16).chain([22, VOTED]).collect(),
         2 => vec![0, 1, 3, 17, 18, 19, 20, 21, 22],
-        _ => vec![0, 1, 22],
+        3 => vec![0, 1, 22],
+        _ => vec![0, 1, 23],
     }
 }
 
+/// The answer in what a call returns: the low 8 bits.
+pub fn answer_in(returned: u32) -> u32 {
+    returned & 255
+}
+
+/// The count in what a call returns: the bits above.
+pub fn count_in(returned: u32) -> u32 {
+    returned >> 8
+}
+
+/// What a page call returns that gives so many lines.
+pub fn given(lines: usize) -> u32 {
+    (lines as u32) << 8
+}
+
 /// Whether a call of `CALLS` that answers `number` writes its output: "A call that starts, votes,
-/// performs, answers open or adds a miss writes a whole image", and a checkpoint call its checkpoint.
+/// performs, answers open or adds a miss writes a whole image", a checkpoint call its checkpoint, a
+/// page call its page.
 pub fn writes(call: usize, number: u32) -> bool {
     let adds_miss = call == 2 && (19..=21).contains(&number);
     number == 0 || number == VOTED || adds_miss
@@ -81,6 +100,7 @@ impl Records {
             Records::Deliver(..) => 1,
             Records::Query(..) => 2,
             Records::Checkpoint => 3,
+            Records::Page(_) => 4,
         }
     }
 
@@ -94,17 +114,22 @@ impl Records {
             Records::Start(checkpoint, start) => vec![start, checkpoint],
             Records::Deliver(announcement, sheet) => vec![announcement, sheet],
             Records::Query(query) => vec![query],
-            Records::Checkpoint => vec![],
+            Records::Checkpoint | Records::Page(_) => vec![],
         }
     }
 
-    /// The bytes that a whole output needs.
-    pub fn size(&self) -> usize {
-        if *self == Records::Checkpoint {
-            CHECKPOINT_SIZE
-        } else {
-            IMAGE_SIZE
+    /// The bytes that a whole output needs; those of a page depend on the image.
+    pub fn size(&self, image: &[u8]) -> usize {
+        match self {
+            Records::Checkpoint => CHECKPOINT_SIZE,
+            Records::Page(_) => LINE_SIZE * layout::lines(image),
+            _ => IMAGE_SIZE,
         }
+    }
+
+    /// Whether the call leaves the node as it is: what it writes is no image.
+    pub fn keeps_node(&self) -> bool {
+        matches!(self, Records::Checkpoint | Records::Page(_))
     }
 
     /// Whether the call writes its output where it answers `number`.
@@ -113,15 +138,23 @@ impl Records {
     }
 }
 
+impl Request {
+    /// The bytes that a whole output needs.
+    pub fn size(&self) -> usize {
+        self.records.size(&self.image)
+    }
+}
+
 type Deliver = fn(&[u8], &[u8], &[u8], &mut [u8]) -> u32;
 
-/// The four calls of one implementation, as C sees them.
+/// The five calls of one implementation, as C sees them.
 pub struct Calls {
     pub name: &'static str,
     pub start: fn(&[u8], &[u8], &mut [u8]) -> u32,
     pub deliver: Deliver,
     pub query: fn(&[u8], &[u8], &mut [u8]) -> u32,
     pub checkpoint: fn(&[u8], &mut [u8]) -> u32,
+    pub page: fn(&[u8], u32, &mut [u8]) -> u32,
 }
 
 /// The shipped static library.
@@ -131,6 +164,7 @@ pub const ARCHIVE: Calls = Calls {
     deliver: archive::node_deliver,
     query: archive::node_query,
     checkpoint: archive::node_checkpoint,
+    page: archive::node_page,
 };
 
 impl Calls {
@@ -143,6 +177,7 @@ impl Calls {
             }
             Records::Query(query) => (self.query)(image, query, out),
             Records::Checkpoint => (self.checkpoint)(image, out),
+            Records::Page(day) => (self.page)(image, *day, out),
         }
     }
 }

@@ -3,6 +3,7 @@
 pub mod claims;
 pub mod hosts;
 pub mod one_call;
+pub mod pages;
 pub mod program;
 pub mod rerun;
 pub mod second;

@@ -229,6 +229,11 @@ impl OwnFields {
         })
     }
 
+    /// "A node whose own seat is retired is halted."
+    pub fn is_halted(&self, state: &StateFields) -> bool {
+        state.seats[usize::from(self.seat & 31)].standing == RETIRED
+    }
+
     /// The image of a state with this own part.
     pub fn image(&self, state: &StateFields) -> Vec<u8> {
         let mut bytes = state.write();

@@ -3,6 +3,7 @@
 use super::call::{Event, History, Request};
 use super::check::claims::{Claims, Tally};
 use super::check::hosts::Hosts;
+use super::check::pages::WORDS;
 use super::check::second::Second;
 use super::check::{one_call, program, rerun};
 use super::make::histories::HistoryMaker;
@@ -40,6 +41,8 @@ pub struct Stages {
     tight: u64,
     regranted: u64,
     at_limit: u64,
+    pages: u64,
+    asked: [u64; WORDS.len()],
     streams: u64,
 }
 
@@ -57,6 +60,8 @@ impl Stages {
             tight: 0,
             regranted: 0,
             at_limit: 0,
+            pages: 0,
+            asked: [0; WORDS.len()],
             streams: 0,
         }
     }
@@ -86,15 +91,24 @@ impl Stages {
         Ok(())
     }
 
+    fn single(&mut self, request: Request) -> Result<(), Found> {
+        self.request(&request).map_err(|what| Found {
+            case: Case::Single(request),
+            what,
+        })
+    }
+
+    /// Pages with every date.
+    pub fn dates(&mut self) -> Result<(), Found> {
+        lone_requests::dates().try_for_each(|request| self.single(request))
+    }
+
     /// Requests that stand alone, until so many calls were made in all.
     pub fn lone_requests(&mut self, rng: &mut Random, until: u64) -> Result<(), Found> {
         let mut requests = lone_requests::ends();
         while self.coverage.calls < until {
             for request in requests {
-                self.request(&request).map_err(|what| Found {
-                    case: Case::Single(request),
-                    what,
-                })?;
+                self.single(request)?;
             }
             requests = lone_requests::requests(rng);
         }
@@ -160,6 +174,10 @@ impl Stages {
             self.shared += tally.shared;
             self.regranted += tally.regranted;
             self.at_limit += tally.at_limit;
+            self.pages += tally.pages;
+        }
+        for (sum, lines) in self.asked.iter_mut().zip(tally.asked) {
+            *sum += lines;
         }
         self.tell();
     }
@@ -169,6 +187,7 @@ impl Stages {
         let mut lines = self.coverage.missing();
         let regranted = "login open beyond the limit since it was granted again, within the bound";
         let at_limit = "ended login open on the last day of the limit, within the bound";
+        let pages = "two pages at one cycle for one day, within the bound";
         let split = "history beyond the bound with two states at one cycle";
         let counts = [
             (self.within, "history within the bound"),
@@ -177,14 +196,20 @@ impl Stages {
             (self.tight, "exactly 2m+1 double voters"),
             (self.regranted, regranted),
             (self.at_limit, at_limit),
+            (self.pages, pages),
         ];
         let never = counts.iter().filter(|(count, _)| *count == 0);
         lines.extend(never.map(|(_, what)| what.to_string()));
+        let words = WORDS.iter().zip(&self.asked);
+        let never = words.filter(|(_, asked)| **asked == 0);
+        lines.extend(never.map(|((word, _), _)| format!("line that reads {word}, with a query")));
         lines
     }
 
     /// What was met, one line each.
     pub fn summary(&self) -> Vec<String> {
+        let asked = WORDS.iter().zip(&self.asked);
+        let asked: Vec<String> = asked.map(|((word, _), n)| format!("{word}: {n}")).collect();
         let mut lines = vec![
             format!(
                 "{} histories, {} within the bound, {} streams",
@@ -202,6 +227,11 @@ impl Stages {
                 "beyond the bound: {} histories split, {} pairs with exactly 2m+1 double voters",
                 self.split, self.tight
             ),
+            format!(
+                "pages: {} at a cycle and for a day that another had, within the bound",
+                self.pages
+            ),
+            format!("lines that a query agrees with  {}", asked.join("  ")),
         ];
         lines.extend(self.coverage.summary());
         lines

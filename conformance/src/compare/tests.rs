@@ -1,13 +1,13 @@
 //! The checks that the comparison itself relies on.
 
-use super::call::{Event, Outcome, Records, Request};
+use super::call::{answer_in, count_in, Event, Outcome, Records, Request};
 use super::check::claims::{Claims, Tally};
 use super::check::rerun;
-use super::fields::{OwnFields, StateFields};
+use super::fields::{Login, OwnFields, StateFields};
 use super::make::records;
 use super::{random_history, Case, FAULTY, PAPER};
 use crate::faulty;
-use crate::layout::{read, BODY, CYCLE_AND_DAY, IMAGE_SIZE};
+use crate::layout::{read, BODY, CYCLE_AND_DAY, IMAGE_SIZE, LINE_SIZE};
 
 const OWN: OwnFields = OwnFields {
     seat: 0,
@@ -20,6 +20,7 @@ fn event(state: &StateFields, records: Records, after: &StateFields) -> Event {
     let image = OWN.image(state);
     let outcome = Outcome {
         number: 0,
+        count: 0,
         written: Some(OWN.image(after)),
     };
     Event {
@@ -67,15 +68,18 @@ fn cases_read_back() {
         let history = random_history(&PAPER, seed).map_err(|found| found.what);
         let history = history.unwrap();
         let call = &history.calls[0];
-        let (records, out) = (call.records.clone(), call.out);
-        let image = OWN.image(&StateFields::printed_run());
-        let single = Case::Single(Request {
-            image,
-            records,
-            out,
-        });
+        let single = |records: Records, out: usize| {
+            let image = OWN.image(&StateFields::printed_run());
+            Case::Single(Request {
+                image,
+                records,
+                out,
+            })
+        };
+        let start = single(call.records.clone(), call.out);
+        let page = single(Records::Page(u32::MAX), 0);
         let stream = Case::Stream(history.first.clone());
-        for case in [Case::History(history), single, stream] {
+        for case in [Case::History(history), start, page, stream] {
             assert_eq!(Case::read(&case.write()), Ok(case));
         }
     }
@@ -92,6 +96,8 @@ fn a_line_that_is_no_case_is_named() {
     let host = "hosts image\ncall 1 1139 checkpoint\n";
     assert_eq!(read(host), "line 2: host 1 is not among the hosts");
     assert_eq!(read("# nothing\n"), "no case is in it");
+    let day = "hosts image\ncall 0 47 page -1\n";
+    assert_eq!(read(day), "line 2: not a number: -1");
 }
 
 #[test]
@@ -151,6 +157,62 @@ fn an_ended_login_open_beyond_the_limit_is_seen() {
             .regranted,
         1
     );
+}
+
+/// A page for a day that the copy with a fault gives, where login 501 ends on day 120.
+fn page_with(fault: &str, own: &OwnFields, day: u32) -> Event {
+    let mut state = StateFields::printed_run();
+    state.logins.push(Login {
+        login: 501,
+        end: 120,
+        rights: 2,
+    });
+    let image = own.image(&state);
+    let mut page = vec![0; LINE_SIZE];
+    faulty::set(faulty::find(fault));
+    let returned = (FAULTY.calls.page)(&image, day, &mut page);
+    faulty::set(None);
+    Event {
+        request: Request {
+            image,
+            records: Records::Page(day),
+            out: LINE_SIZE,
+        },
+        outcome: Outcome {
+            number: answer_in(returned),
+            count: count_in(returned),
+            written: Some(page),
+        },
+    }
+}
+
+const NO_FAULT: &str = "";
+
+#[test]
+fn two_pages_at_one_cycle_for_one_day_are_seen() {
+    let locked = OwnFields { misses: 10, ..OWN };
+    let pages = |fault| [page_with(fault, &OWN, 110), page_with(fault, &locked, 110)];
+    assert_eq!(claims_of(&pages(NO_FAULT)).unwrap().pages, 1);
+    let what = claims_of(&pages("WordOfLocked")).err().unwrap();
+    assert_eq!(
+        what,
+        "two nodes at cycle 1 give other pages for day 110, within the bound"
+    );
+}
+
+#[test]
+fn a_word_that_no_query_agrees_with_is_seen() {
+    let read = |fault, day| claims_of(&[page_with(fault, &OWN, day)]);
+    for (day, asked, fault) in [
+        (120, [1, 0, 0], "WordEndedEarly"),
+        (121, [0, 0, 1], "WordEndedLate"),
+        (130, [0, 0, 1], "WordSilentEarly"),
+        (131, [0, 1, 0], "EndedWinsOverSilent"),
+    ] {
+        assert_eq!(read(NO_FAULT, day).unwrap().asked, asked);
+        let what = read(fault, day).err().unwrap();
+        assert!(what.contains("and a query answers"), "{fault}: {what}");
+    }
 }
 
 #[test]

@@ -9,7 +9,7 @@ pub enum Answer {
     Voted,
     Done,
     Open,
-    /// A checkpoint was given. node-run has no request for one.
+    /// A checkpoint or a page was given. node-run has no request for either.
     Given,
     No(u32),
 }
@@ -29,7 +29,7 @@ impl Answer {
         }
     }
 
-    /// What the call returns.
+    /// The answer in what the call returns.
     pub fn number(self) -> u32 {
         match self {
             Started | Done | Open | Given => 0,

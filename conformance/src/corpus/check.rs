@@ -7,7 +7,7 @@ use super::make::{Desk, Made, Slices};
 use super::reached::Reached;
 use super::sweep;
 use super::walk::{walk, Counts, Found};
-use crate::compare::call::ARCHIVE;
+use crate::compare::call::{given, ARCHIVE};
 use crate::compare::program::printed;
 use crate::compare::PAPER;
 use std::io;
@@ -57,13 +57,16 @@ impl Checker {
         if !sort.answers().contains(&answer) {
             return Err(format!("{} never answers {answer}", sort.name()));
         }
-        let number = answer.number();
-        let made = self.both(call, Slices { room, gap: 0 }, number)?;
+        let returned = answer.number() | given(request.page.len());
+        let made = self.both(call, Slices { room, gap: 0 }, returned)?;
         self.reached.note(sort, answer);
-        if room == sort.room() {
-            self.derive(request, call, number)?;
+        if sort == Sort::Page {
+            request.require_page(made.written.as_deref())?;
         }
-        if sort == Sort::Checkpoint {
+        if room == call.room() {
+            self.derive(request, call, returned)?;
+        }
+        if !sort.writes_image() {
             return Ok(None);
         }
         if let Some(image) = &made.written {
@@ -176,6 +179,22 @@ impl Run {
 }
 
 impl Request {
+    /// The page that was written has the lines of the text.
+    fn require_page(&self, written: Option<&[u8]>) -> Result<(), String> {
+        let page = String::from_utf8_lossy(written.unwrap_or_default());
+        let mut lines = page.split_inclusive('\n');
+        for wanted in &self.page {
+            let line = lines.next().unwrap_or_default();
+            if line.strip_suffix('\n') != Some(wanted) {
+                let shown = line.escape_debug();
+                return Err(format!(
+                    "the page has the line |{shown}|, wanted |{wanted}|"
+                ));
+            }
+        }
+        Ok(())
+    }
+
     fn is_in_run(&self) -> bool {
         matches!(self.by, By::Run { .. })
     }

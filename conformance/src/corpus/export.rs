@@ -1,6 +1,6 @@
 //! What the corpus gives to others: node-run's input and output, and the calls for C.
 
-use super::call::{self, Call};
+use super::call::{self, Call, Sort};
 use super::file::Run;
 use super::walk::{walk, Found};
 use crate::compare::PAPER;
@@ -13,8 +13,9 @@ pub fn only_run(runs: &[Run]) -> Result<&Run, Found> {
     }
 }
 
-/// Every call of the runs: the number of the call from 0 (start, deliver, query, checkpoint) and the
-/// lengths of its slices, three, each in 4 bytes; then the slices.
+/// Every call of the runs: the number of the call from 0 (start, deliver, query, checkpoint, page)
+/// and the lengths of its slices, three, each in 4 bytes; then the slices. The day of a page stands
+/// as a second slice of 4 bytes.
 pub fn calls(runs: &[Run]) -> Result<Vec<u8>, Found> {
     let mut out = Vec::new();
     for run in runs {
@@ -27,17 +28,21 @@ pub fn calls(runs: &[Run]) -> Result<Vec<u8>, Found> {
 }
 
 fn push(out: &mut Vec<u8>, call: &Call) {
-    let length = |place: usize| call.slices.get(place).map_or(0, Vec::len) as u32;
+    let mut slices = call.slices.clone();
+    if call.sort == Sort::Page {
+        slices.push(call.day.to_le_bytes().to_vec());
+    }
+    let length = |place: usize| slices.get(place).map_or(0, Vec::len) as u32;
     for number in [call.sort as u32, length(0), length(1), length(2)] {
         out.extend(number.to_le_bytes());
     }
-    out.extend(call.slices.concat());
+    out.extend(slices.concat());
 }
 
 /// What the second implementation writes.
 fn image_after(call: &Call, room: usize) -> Option<Vec<u8>> {
     let mut image = vec![0; room];
     let slices: Vec<&[u8]> = call.slices.iter().map(Vec::as_slice).collect();
-    let number = call::make(&PAPER.calls, call.sort, &slices, &mut image);
+    let number = call::make(&PAPER.calls, call, &slices, &mut image);
     call.sort.writes(number).then_some(image)
 }

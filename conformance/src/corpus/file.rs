@@ -10,8 +10,22 @@ use std::collections::HashMap;
 pub enum By {
     /// As a part of node-run's input; its line has the ordinal and the cycle after it.
     Run { ordinal: usize, cycle: u32 },
-    /// By a call alone, with an output slice of some length, or of the least that it takes.
-    Call { sort: Sort, room: Option<usize> },
+    /// By a call alone, with an output slice of some length, or of the least that it takes. The day
+    /// is that of a page.
+    Call {
+        sort: Sort,
+        day: u32,
+        room: Option<usize>,
+    },
+}
+
+impl By {
+    fn sort(self) -> Option<Sort> {
+        match self {
+            By::Run { .. } => None,
+            By::Call { sort, .. } => Some(sort),
+        }
+    }
 }
 
 #[derive(Debug, Clone)]
@@ -21,6 +35,8 @@ pub struct Request {
     pub by: By,
     pub items: Vec<Item>,
     pub answer: Answer,
+    /// The lines of the page that is given, without their line feeds.
+    pub page: Vec<String>,
 }
 
 /// One input of node-run, and the requests by call that stand between.
@@ -40,7 +56,9 @@ struct Reader {
     naming: Option<String>,
     chunk: Option<Chunk>,
     items: Vec<Item>,
-    call: Option<(Sort, Option<usize>)>,
+    call: Option<By>,
+    /// How many lines of the page above have yet to come.
+    lines: usize,
 }
 
 /// Lines that belong to the chunk above them.
@@ -63,6 +81,9 @@ impl Reader {
         if let Some(answer) = text.strip_prefix("# answer:") {
             return self.answer(line, answer);
         }
+        if let Some(text) = text.strip_prefix("# page:") {
+            return self.page_line(line, text);
+        }
         let text = text.split('#').next().unwrap_or_default();
         let words: Vec<&str> = text.split_whitespace().collect();
         match (words.as_slice(), &mut self.chunk) {
@@ -83,9 +104,12 @@ impl Reader {
     fn begin(&mut self, line: usize, text: &str, words: &[&str]) -> Parse<()> {
         match words {
             ["run"] => self.end_run(line)?,
-            ["call", sort, room @ ..] => {
+            ["call", sort, words @ ..] => {
                 self.require_answered(line)?;
-                self.call = Some((sort_named(line, sort)?, room_named(line, room)?));
+                let sort = sort_named(line, sort)?;
+                let (day, words) = day_named(line, sort, words)?;
+                let room = room_named(line, words)?;
+                self.call = Some(By::Call { sort, day, room });
             }
             ["let", name] => self.naming = Some(name.to_string()),
             ["same", name] => match self.names.get(*name) {
@@ -103,6 +127,7 @@ impl Reader {
 
     /// The chunk at hand gets its name, or is a part of the request.
     fn close(&mut self) -> Parse<()> {
+        self.require_page()?;
         let Some(chunk) = self.chunk.take() else {
             return Ok(());
         };
@@ -133,9 +158,10 @@ impl Reader {
         self.close()?;
         let words: Vec<&str> = text.split_whitespace().collect();
         let (by, answer) = match self.call.take() {
-            Some((sort, room)) => (By::Call { sort, room }, words.as_slice()),
+            Some(by) => (by, words.as_slice()),
             None => self.by_run(line, &words)?,
         };
+        let answer = self.without_lines(line, by, answer)?;
         let Some(answer) = Answer::read(answer) else {
             return error(
                 line,
@@ -148,8 +174,48 @@ impl Reader {
             by,
             items,
             answer,
+            page: Vec::new(),
         });
         Ok(())
+    }
+
+    /// The words of an answer without the number of lines, which a given page has.
+    fn without_lines<'a, 'b>(
+        &mut self,
+        line: usize,
+        by: By,
+        words: &'a [&'b str],
+    ) -> Parse<&'a [&'b str]> {
+        match (by.sort(), words) {
+            (Some(Sort::Page), ["given", lines]) => {
+                self.lines = number(line, lines)?;
+                Ok(&words[..1])
+            }
+            (Some(Sort::Page), ["given"]) => error(line, "given and a number of lines is expected"),
+            _ => Ok(words),
+        }
+    }
+
+    /// A line of the page that the answer above gives.
+    fn page_line(&mut self, line: usize, text: &str) -> Parse<()> {
+        let text = text.trim().strip_prefix('|');
+        let Some(text) = text.and_then(|text| text.strip_suffix('|')) else {
+            return error(line, "a line of a page stands between two bars");
+        };
+        match self.run.requests.last_mut() {
+            Some(request) if self.lines > 0 => request.page.push(text.to_string()),
+            _ => return error(line, "the answer above gives no such line of a page"),
+        }
+        self.lines -= 1;
+        Ok(())
+    }
+
+    /// The page above has all its lines.
+    fn require_page(&self) -> Parse<()> {
+        match (self.lines, self.run.requests.last()) {
+            (1.., Some(request)) => error(request.line, "lines of its page are missing"),
+            _ => Ok(()),
+        }
     }
 
     /// `ORDINAL ANSWER CYCLE`, as node-run prints it.
@@ -171,7 +237,22 @@ impl Reader {
 fn sort_named(line: usize, name: &str) -> Parse<Sort> {
     match SORTS.iter().find(|sort| sort.name() == name) {
         Some(sort) => Ok(*sort),
-        None => error(line, "start, deliver, query or checkpoint is expected"),
+        None => error(
+            line,
+            "start, deliver, query, checkpoint or page is expected",
+        ),
+    }
+}
+
+/// The day of a page, and the words behind it.
+fn day_named<'a, 'b>(line: usize, sort: Sort, words: &'a [&'b str]) -> Parse<(u32, &'a [&'b str])> {
+    match (sort, words) {
+        (Sort::Page, ["day", day, rest @ ..]) => match u32::try_from(number(line, day)?) {
+            Ok(day) => Ok((day, rest)),
+            Err(_) => error(line, "a day has 32 bits"),
+        },
+        (Sort::Page, _) => error(line, "day N is expected"),
+        _ => Ok((0, words)),
     }
 }
 

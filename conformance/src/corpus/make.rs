@@ -73,14 +73,14 @@ impl Desk {
             .map(|(memory, slice)| within(memory, slice.len(), on.gap))
             .collect();
         let end = output.len() - on.gap;
-        call::make(by, call.sort, &slices, &mut output[end - on.room..end])
+        call::make(by, call, &slices, &mut output[end - on.room..end])
     }
 
     /// What was written; "longer ones keep their tail".
     fn written(&self, call: &Call, number: u32, on: Slices) -> Result<Option<Vec<u8>>, String> {
         let [.., output] = &self.memories;
         let writes = call.sort.writes(number);
-        let size = if writes { call.sort.room() } else { 0 };
+        let size = if writes { call.room() } else { 0 };
         if size > on.room {
             return Err(format!("returns {number}, but has no room to write"));
         }

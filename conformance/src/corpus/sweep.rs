@@ -1,10 +1,11 @@
 //! Calls derived from a request of the corpus, with the numbers that follow from its own by these
 //! sentences of document 01: what is malformed ("So is an input slice that isn't exactly one
 //! record, checkpoint or image"), 1 before 2 before 22, and 22 for every output slice that is too
-//! short.
+//! short; for a page 23 in the place of 22 (request A1).
 
 use super::call::{Call, Sort};
 use super::make::{Slices, GUARD};
+use crate::compare::call::given;
 use crate::layout::{self, CHECKPOINT_SIZE, IMAGE_SIZE};
 use crate::text;
 
@@ -14,6 +15,8 @@ pub type Each<'a> = &'a mut dyn FnMut(&Call, Slices, u32) -> Result<(), String>;
 type Swept = Result<(), String>;
 
 const LONGEST_ROOM: usize = 1200;
+/// How far beyond the least the longest of several output slices is.
+const SPARE: usize = 61;
 const LONGEST_SLICE: usize = 65536;
 
 /// Output slices of several lengths, and each input slice a byte short. `number` is what the call
@@ -49,8 +52,9 @@ fn with_gaps(call: &Call, number: u32, room: usize, each: Each) -> Swept {
 }
 
 fn with_rooms(call: &Call, number: u32, each: Each) -> Swept {
-    let least = call.sort.room();
-    for room in [0, 1, least - 1, least, least + 1, least + 61] {
+    let least = call.room();
+    let short = least.saturating_sub(1);
+    for room in [0, 1, short, least, least + 1, least + SPARE] {
         with_gaps(call, number, room, each)?;
     }
     Ok(())
@@ -58,15 +62,15 @@ fn with_rooms(call: &Call, number: u32, each: Each) -> Swept {
 
 /// "straight after 1 and 2"
 fn with_room(call: &Call, number: u32, room: usize) -> u32 {
-    match room < call.sort.room() && number != 1 && number != 2 {
-        true => 22,
+    match room < call.room() && number != 1 && number != 2 {
+        true => call.sort.no_room(),
         false => number,
     }
 }
 
 /// Output slices of every length.
 pub fn rooms(call: &Call, number: u32, each: Each) -> Swept {
-    for room in 0..=LONGEST_ROOM {
+    for room in 0..=LONGEST_ROOM.max(call.room() + SPARE) {
         with_gaps(call, number, room, each)?;
     }
     Ok(())
@@ -103,7 +107,7 @@ fn lengths(call: &Call, place: usize, each: Each) -> Swept {
 
 fn malformed(call: &Call, place: usize, each: Each) -> Swept {
     let slices = Slices {
-        room: call.sort.room(),
+        room: call.room(),
         gap: 0,
     };
     each(call, slices, call.sort.malformed(place))
@@ -171,10 +175,10 @@ pub fn as_image(call: &Call, number: u32, each: Each) -> Swept {
     image_in_calls(&image, false, each)
 }
 
-/// The image of a checkpoint call in the other calls that take one.
+/// The image of a checkpoint or page call in the other calls that take one.
 pub fn in_other_calls(call: &Call, number: u32, each: Each) -> Swept {
     match call.sort {
-        Sort::Checkpoint if call.slices[0].len() == IMAGE_SIZE => {
+        Sort::Checkpoint | Sort::Page if call.slices[0].len() == IMAGE_SIZE => {
             image_in_calls(&call.slices[0], number != 1, each)
         }
         _ => Ok(()),
@@ -183,11 +187,11 @@ pub fn in_other_calls(call: &Call, number: u32, each: Each) -> Swept {
 
 /// An image in each call that takes one: an announcement of cycle 0, which has passed in every
 /// state, and a query for login 0, which is never listed, on day 0, which is never after the agreed
-/// day.
+/// day. The page is for day 0 as well.
 pub fn image_in_calls(image: &[u8], is_good: bool, each: Each) -> Swept {
-    let (deliver, query) = match is_good {
-        true => numbers_of(image),
-        false => (1, 1),
+    let ((deliver, query), page) = match is_good {
+        true => (numbers_of(image), given(layout::lines(image))),
+        false => ((1, 1), 1),
     };
     let records = ASKED.map(|text| text::compose(text).unwrap_or_default());
     let [announcement, sheet, login_0] = records;
@@ -195,6 +199,7 @@ pub fn image_in_calls(image: &[u8], is_good: bool, each: Each) -> Swept {
         (Sort::Checkpoint, vec![], u32::from(!is_good)),
         (Sort::Deliver, vec![announcement, sheet], deliver),
         (Sort::Query, vec![login_0], query),
+        (Sort::Page, vec![], page),
     ] {
         if let Some(call) = Call::new(sort, Some(image), records) {
             around(&call, number, each)?;

@@ -62,6 +62,8 @@ fn each_of_several_bytes() {
     assert_eq!((all.len(), places), (3, vec![4, 5, 6]));
 }
 
+const GIVEN_1: &str = "call page day 1\n# answer: given 1\n# page: x";
+
 #[test]
 fn messages_have_their_line() {
     for (text, line, what) in [
@@ -74,7 +76,15 @@ fn messages_have_their_line() {
         ("bytes 00\n# answer: open", 2, "an ordinal, an answer"),
         ("bytes 00\n# answer: 1 shut 1", 2, "is expected"),
         ("call query\n# answer: 1 open 1", 2, "is expected"),
-        ("call frobnicate", 1, "start, deliver, query or checkpoint"),
+        ("call frobnicate", 1, "start, deliver, query, checkpoint"),
+        ("call page", 1, "day N is expected"),
+        ("call page day 4294967296", 1, "a day has 32 bits"),
+        ("call page day 1\n# answer: given", 2, "a number of lines"),
+        ("call page day 1\n# answer: given 1\nrun", 2, "are missing"),
+        ("call page day 1\n# answer: given 1", 2, "are missing"),
+        (GIVEN_1, 3, "between two bars"),
+        ("# page: |x|", 1, "gives no such line"),
+        ("call checkpoint\n# answer: given 1", 2, "is expected"),
         ("call query rooms 3", 1, "room N"),
         ("bytes 00\n at 1 bytes 00", 2, "the bytes before it are 1"),
         ("bytes 00\n at 0 bytes 0", 2, "two hexadecimal digits"),
@@ -92,18 +102,19 @@ fn names() -> Vec<String> {
     names.filter(|name| name.ends_with(".txt")).collect()
 }
 
-/// Those of rules, formats and hazards, with the printed run, the quorums and node-run's input.
+/// Those of rules, formats and hazards, with the printed run, the quorums, the pages and node-run's
+/// input.
 #[test]
 fn every_file_is_read() {
     for name in names() {
         assert!(read(&text(&name)).is_ok(), "{name}");
     }
-    assert_eq!(names().len(), 22 + 7 + 6 + 3);
+    assert_eq!(names().len(), 23 + 7 + 6 + 4);
 }
 
 #[test]
 fn each_rule_has_a_file_that_reaches_it() {
-    for rule in 1..=22 {
+    for rule in 1..=23 {
         let runs = read(&text(&format!("rule-{rule:02}.txt"))).unwrap();
         let mut requests = runs.iter().flat_map(|run| &run.requests);
         let met = requests.any(|request| request.answer == Answer::No(rule));
@@ -155,6 +166,46 @@ fn changed(lines: &[&str], line: usize, answer: &str) -> String {
     lines.join("\n") + "\n"
 }
 
+/// The line of the page in request A1.
+const PAGE: &str = "# page: |       501 1970-05-01 A--------------- open   |";
+
+/// page.txt up to the first page of this line, with another answer and another page. Gives the line
+/// of the answer too.
+fn example(answer: &str, page: &str) -> (usize, String) {
+    let text = text("page.txt");
+    let line = text.lines().position(|line| line == PAGE).unwrap();
+    let before: Vec<&str> = text.lines().take(line - 1).collect();
+    let changed = format!("{}\n# answer: {answer}\n{page}\n", before.join("\n"));
+    (line, changed)
+}
+
+#[test]
+fn each_changed_character_of_a_page_is_found() {
+    let (_, same) = example("given 1", PAGE);
+    assert!(found(&same).1.contains("no node-run"));
+    let begin = "# page: |".len();
+    for place in begin..begin + 46 {
+        let mut other = PAGE.to_string();
+        other.replace_range(place..=place, "x");
+        let (line, changed) = example("given 1", &other);
+        assert_eq!(found(&changed).0, line, "{other}");
+    }
+}
+
+#[test]
+fn a_changed_number_of_lines_is_found() {
+    let twice = "# page: |x|\n# page: |x|";
+    for (answer, page, wanted) in [
+        ("given 0", "", 0),
+        ("given 2", twice, 512),
+        ("no 23", "", 23),
+    ] {
+        let what = format!("archive returns 256, wanted {wanted}");
+        let (line, changed) = example(answer, page);
+        assert_eq!(found(&changed), (line, what));
+    }
+}
+
 #[test]
 fn a_changed_cycle_is_found() {
     let text = text("printed-run.txt").replace("3 done 2", "3 done 3");
@@ -180,4 +231,17 @@ fn calls_for_c() {
     );
     let sizes = 1108 + 9 + (1139 + 24 + 7) + (1139 + 24 + 17) + 3 * (1139 + 13);
     assert_eq!(calls.len(), 6 * 16 + sizes);
+}
+
+/// The day of a page stands behind its image.
+#[test]
+fn a_page_for_c() {
+    let runs = read(&example("given 0", "").1).unwrap();
+    let calls = export::calls(&runs).unwrap();
+    let page = &calls[calls.len() - (16 + 1139 + 4)..];
+    assert_eq!(
+        page[..16],
+        [4, 0, 0, 0, 115, 4, 0, 0, 4, 0, 0, 0, 0, 0, 0, 0]
+    );
+    assert_eq!(page[16 + 1139..], [120, 0, 0, 0]);
 }

@@ -14,7 +14,7 @@ pub struct Counts {
     pub requests: usize,
     /// Of these, by call alone: node-run doesn't see them.
     pub by_call: usize,
-    /// Of these, none of the four calls: they end the run of node-run.
+    /// Of these, no call's: they end the run of node-run.
     pub ending: usize,
 }
 
@@ -36,9 +36,12 @@ pub fn walk(run: &Run, each: Each) -> Result<Counts, Found> {
         let at = |what: String| (request.line, what);
         counts.requests += 1;
         match request.by {
-            By::Call { sort, room } => {
+            By::Call { sort, day, room } => {
                 counts.by_call += 1;
-                by_call(request, sort, room, node.as_deref(), each).map_err(at)?;
+                for call in by_call(request, sort, node.as_deref()).map_err(at)? {
+                    let call = Call { day, ..call };
+                    each(request, &call, room.unwrap_or(call.room())).map_err(at)?;
+                }
             }
             By::Run { cycle, .. } if counts.ending == 0 => {
                 let ends = !in_run(request, &mut node, each).map_err(at)?;
@@ -51,23 +54,18 @@ pub fn walk(run: &Run, each: Each) -> Result<Counts, Found> {
     Ok(counts)
 }
 
-/// A request by call alone, on the run's node or an image of its own. What it writes is dropped.
-fn by_call(
-    request: &Request,
-    sort: Sort,
-    room: Option<usize>,
-    node: Option<&[u8]>,
-    each: Each,
-) -> Result<(), String> {
-    for slices in expanded(request) {
+/// The calls of a request by call alone, on the run's node or an image of its own. What they write is
+/// dropped.
+fn by_call(request: &Request, sort: Sort, node: Option<&[u8]>) -> Result<Vec<Call>, String> {
+    let call = |slices: Vec<Vec<u8>>| {
         let (image, records) = match slices.len() > sort.records() {
             true => (Some(slices[0].as_slice()), slices[1..].to_vec()),
             false => (node, slices.clone()),
         };
-        let call = Call::new(sort, image, records).ok_or("it has too many records, or too few")?;
-        each(request, &call, room.unwrap_or(sort.room()))?;
-    }
-    Ok(())
+        let call = Call::new(sort, image, records);
+        call.ok_or("it has too many records, or too few".to_string())
+    };
+    expanded(request).into_iter().map(call).collect()
 }
 
 /// The slices of a request, once for each place of its `each`.
@@ -99,7 +97,7 @@ fn in_run(request: &Request, node: &mut Option<Vec<u8>>, each: Each) -> Result<b
         _ => return Err("it ends the run: its answer is no 1".to_string()),
     };
     let call = Call::new(sort, node.as_deref(), records).ok_or("no call takes it")?;
-    if let Some(image) = each(request, &call, sort.room())? {
+    if let Some(image) = each(request, &call, call.room())? {
         *node = Some(image);
     }
     Ok(true)

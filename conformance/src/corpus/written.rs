@@ -1,5 +1,6 @@
 //! What a call is to write, as far as the papers give it by itself: all of it but the tables of the
-//! state after a performed action. These are compared between the implementations.
+//! state after a performed action and the lines of a page. These are compared between the
+//! implementations, and a page with the text.
 
 use super::call::{Call, Sort};
 use crate::compare::call::VOTED;
@@ -13,7 +14,7 @@ pub fn check(call: &Call, number: u32, written: &[u8]) -> Result<(), String> {
         Sort::Start => &[CHECKPOINT_SIZE, 9],
         Sort::Deliver => &[IMAGE_SIZE, 24],
         Sort::Query => &[IMAGE_SIZE, 13],
-        Sort::Checkpoint => &[IMAGE_SIZE],
+        Sort::Checkpoint | Sort::Page => &[IMAGE_SIZE],
     };
     if !sizes.starts_with(whole) {
         return Err(format!("takes slices of {sizes:?} bytes"));
@@ -28,6 +29,7 @@ fn expected(call: &Call, number: u32, written: &[u8]) -> Vec<u8> {
     let mut out = call.slices[0].clone();
     match (call.sort, number) {
         (Sort::Checkpoint, _) => out.truncate(CHECKPOINT_SIZE),
+        (Sort::Page, _) => out = written.to_vec(),
         // "Misses 0, no vote." The start record has seat and life behind its four bytes.
         (Sort::Start, _) => {
             out.extend(&call.slices[1][4..]);

@@ -1,4 +1,4 @@
-//! "Image for C, 1,139 bytes", and the four calls as C sees them.
+//! "Image for C, 1,139 bytes", and the calls of document 01 as C sees them.
 
 use super::announcement::Announcement;
 use super::bytes::{all_zero, push_u32, require, Read, Reader};
@@ -84,7 +84,7 @@ fn is_short(out: &[u8], size: usize) -> bool {
 }
 
 /// "longer ones keep their tail"
-fn put(bytes: &[u8], out: &mut [u8]) {
+pub(super) fn put(bytes: &[u8], out: &mut [u8]) {
     out.iter_mut().zip(bytes).for_each(|(to, byte)| *to = *byte);
 }
 

@@ -33,7 +33,7 @@ impl Node {
         numbers.find(|number| self.query_refused(*number, query))
     }
 
-    fn query_refused(&self, number: u8, query: &Query) -> bool {
+    pub(super) fn query_refused(&self, number: u8, query: &Query) -> bool {
         // "Let t be the later of given and agreed day."
         let t = query.day.max(self.state.day);
         let silence = i64::from(self.state.minima.silence);

@@ -1,4 +1,4 @@
-//! The four calls, as C sees them.
+//! The calls of document 01, as C sees them.
 
 use super::actions::perform;
 use super::announcement::{is_sheet, Announcement};

@@ -34,6 +34,13 @@ fn answers_as_the_second_implementation() {
 }
 
 #[test]
+fn gives_every_date() {
+    for request in lone_requests::dates() {
+        compare(&request).unwrap();
+    }
+}
+
+#[test]
 fn answers_so_on_damaged_input() {
     let mut rng = Random::new(2);
     for base in sweeps::bases(&mut rng) {

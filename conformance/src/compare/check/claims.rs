@@ -1,8 +1,9 @@
 //! The claims about a whole history (document 01, "One park, one list"): nodes at equal cycles
 //! share one state, and an ended login is not open beyond the silence limit. Both hold for lawful
-//! starts within the bound on double voters.
+//! starts within the bound on double voters. The claims about pages are in `pages`.
 
 use super::one_call;
+use super::pages::{Pages, WORDS};
 use crate::compare::call::{Event, Records};
 use crate::compare::fields::StateFields;
 use crate::layout::{self, kind_of, ARGUMENTS, BODY, CYCLE_AND_DAY, QUERY};
@@ -47,6 +48,10 @@ pub struct Tally {
     pub regranted: u64,
     /// Queries for an ended login that were open on the last day that the limit allows.
     pub at_limit: u64,
+    /// Pages for a cycle and a day for which one was given before.
+    pub pages: u64,
+    /// Lines of pages by the place of their word in `pages::WORDS`, where a query agreed.
+    pub asked: [u64; WORDS.len()],
 }
 
 pub struct Claims {
@@ -62,6 +67,7 @@ pub struct Claims {
     ends: Vec<Change>,
     grants: Vec<Change>,
     opened: Vec<Opened>,
+    pages: Pages,
 }
 
 impl Claims {
@@ -77,6 +83,7 @@ impl Claims {
             ends: Vec::new(),
             grants: Vec::new(),
             opened: Vec::new(),
+            pages: Pages::default(),
         }
     }
 
@@ -110,6 +117,7 @@ impl Claims {
                 self.given.insert(written.clone());
                 Ok(())
             }
+            Records::Page(day) => self.pages.note(&event.request.image, *day, written),
         }
     }
 
@@ -177,12 +185,19 @@ impl Claims {
                 "two nodes at cycle {cycle} differ, within the bound"
             ));
         }
+        if let (true, Some((cycle, day))) = (within, self.pages.split) {
+            return Err(format!(
+                "two nodes at cycle {cycle} give other pages for day {day}, within the bound"
+            ));
+        }
         let tight = pairs.iter().filter(|(both, bound)| *both == bound + 1);
         let mut tally = Tally {
             within,
             split: self.split.is_some(),
             shared: self.shared,
             tight: tight.count() as u64,
+            pages: self.pages.shared,
+            asked: self.pages.asked,
             ..Tally::default()
         };
         for ended in &self.ends {

@@ -45,10 +45,14 @@ impl Hosts {
             return Ok(None);
         }
         let host = &mut self.hosts[call.host];
-        // By value only a checkpoint has a slice, so the archive gets a slice that never refuses
-        // the others.
-        let any_room = matches!(host, Host::ByValue(_)) && call.records != Records::Checkpoint;
-        let least = if any_room { call.records.size() } else { 0 };
+        // By value only a checkpoint and a page have a slice, so the archive gets a slice that never
+        // refuses the others.
+        let any_room = matches!(host, Host::ByValue(_)) && !call.records.keeps_node();
+        let least = if any_room {
+            call.records.size(&image)
+        } else {
+            0
+        };
         let request = Request {
             image,
             records: call.records.clone(),
@@ -71,7 +75,7 @@ impl Host {
             Host::ByValue(held) => {
                 *held = one_call::by_value(second, held.take(), request, outcome)?;
             }
-            Host::Image(_) if request.records == Records::Checkpoint => {}
+            Host::Image(_) if request.records.keeps_node() => {}
             Host::Image(held) => {
                 if let Some(image) = &outcome.written {
                     *held = Some(image.clone());

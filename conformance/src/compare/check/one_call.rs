@@ -2,8 +2,8 @@
 
 use super::second::{ByValue, Second};
 use crate::archive;
-use crate::compare::call::{Outcome, Records, Request, ARCHIVE};
-use crate::layout::CHECKPOINT_SIZE;
+use crate::compare::call::{answer_in, count_in, Outcome, Records, Request, ARCHIVE};
+use crate::layout::{CHECKPOINT_SIZE, LINE_SIZE};
 use std::panic::{catch_unwind, AssertUnwindSafe};
 
 /// Bytes before and behind the output slice that no call may touch. Odd, since a slice may have any
@@ -20,26 +20,56 @@ pub fn compare(second: &Second, request: &Request) -> Result<Outcome, String> {
     let before = pattern(out + 2 * GUARD);
     let (mut proved, mut other) = (before.clone(), before.clone());
     let slice = GUARD..GUARD + out;
-    let number = ARCHIVE.make(image, records, &mut proved[slice.clone()]);
+    let returned = ARCHIVE.make(image, records, &mut proved[slice.clone()]);
     let expected = guarded(|| second.calls.make(image, records, &mut other[slice]))?;
-    if number != expected {
-        return Err(format!("archive answers {number}, paper {expected}"));
+    if returned != expected {
+        let (archive, paper) = (in_words(returned), in_words(expected));
+        return Err(format!("archive answers {archive}, paper {paper}"));
     }
+    let (number, count) = (answer_in(returned), count_in(returned));
     if let Some(at) = (0..before.len()).find(|&at| proved[at] != other[at]) {
-        let place = at as i64 - GUARD as i64;
-        return Err(format!(
-            "answer {number}: output byte {place} is {} from archive, {} from paper",
-            proved[at], other[at]
-        ));
+        let what = match records {
+            Records::Page(_) => other_line(at, &proved, &other),
+            _ => other_byte(at, &proved, &other),
+        };
+        return Err(format!("answer {number}: {what}"));
     }
     let writes = records.writes(number);
-    let size = if writes { records.size() } else { 0 };
+    let size = if writes { request.size() } else { 0 };
     let end = GUARD + size;
     if size > *out || before[..GUARD] != proved[..GUARD] || before[end..] != proved[end..] {
         return Err(format!("answer {number}: bytes are written that must stay"));
     }
     let written = writes.then(|| proved[GUARD..end].to_vec());
-    Ok(Outcome { number, written })
+    Ok(Outcome {
+        number,
+        count,
+        written,
+    })
+}
+
+/// That two outputs differ in a byte.
+fn other_byte(at: usize, proved: &[u8], other: &[u8]) -> String {
+    let place = at as i64 - GUARD as i64;
+    let (archive, paper) = (proved[at], other[at]);
+    format!("output byte {place} is {archive} from archive, {paper} from paper")
+}
+
+/// The same, with the line of a page in which the byte lies, whatever else may stand there.
+fn other_line(at: usize, proved: &[u8], other: &[u8]) -> String {
+    let first = at.saturating_sub(GUARD) / LINE_SIZE * LINE_SIZE + GUARD;
+    let end = proved.len().min(first + LINE_SIZE);
+    let line = |bytes: &[u8]| bytes[first..end].escape_ascii().to_string();
+    let what = other_byte(at, proved, other);
+    format!("{what}, in \"{}\" and \"{}\"", line(proved), line(other))
+}
+
+/// What a call returned.
+fn in_words(returned: u32) -> String {
+    match (answer_in(returned), count_in(returned)) {
+        (number, 0) => number.to_string(),
+        (number, count) => format!("{number} with count {count}"),
+    }
 }
 
 /// Bytes that differ from place to place, so that a copied tail is seen.
@@ -102,6 +132,7 @@ fn call_by_value(held: Held, request: &Request, outcome: &Outcome) -> Result<Hel
     let number = match &request.records {
         Records::Deliver(announcement, sheet) => node.deliver(announcement, sheet),
         Records::Query(query) => node.query(query),
+        Records::Page(day) => return same_page(node, *day, outcome),
         _ => return same_checkpoint(node, outcome),
     };
     let image = outcome.written.as_deref().or(Some(&request.image));
@@ -137,10 +168,24 @@ fn same_checkpoint(node: Box<dyn ByValue>, outcome: &Outcome) -> Result<Held, St
     }
 }
 
+/// The same for a page, with the number of its lines.
+fn same_page(node: Box<dyn ByValue>, day: u32, outcome: &Outcome) -> Result<Held, String> {
+    let lines = node.page(day);
+    let is_same = |written: &Vec<u8>| {
+        *written == lines.concat().into_bytes() && outcome.count == lines.len() as u32
+    };
+    match &outcome.written {
+        Some(written) if !is_same(written) => {
+            Err("paper's page by value and for C differ".to_string())
+        }
+        _ => Ok(Some(node)),
+    }
+}
+
 /// A call that stands alone: for C, and by value where the output slice has room.
 pub fn compare_all(second: &Second, request: &Request) -> Result<Outcome, String> {
     let outcome = compare(second, request)?;
-    if request.out >= request.records.size() {
+    if request.out >= request.size() {
         let held = guarded(|| (second.from_image)(&request.image))?;
         by_value(second, held, request, &outcome)?;
     }

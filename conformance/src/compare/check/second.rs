@@ -19,6 +19,8 @@ pub trait ByValue {
     fn deliver(&mut self, announcement: &[u8], sheet: &[u8]) -> u32;
     fn query(&mut self, query: &[u8]) -> u32;
     fn checkpoint(&self) -> Vec<u8>;
+    /// The lines of the page.
+    fn page(&self, day: u32) -> Vec<String>;
     fn image(&self) -> Vec<u8>;
     /// Whether its image is read as this node.
     fn reads_back(&self) -> bool;
@@ -36,6 +38,7 @@ macro_rules! second {
                     deliver: paper::image::node_deliver,
                     query: paper::image::node_query,
                     checkpoint: paper::image::node_checkpoint,
+                    page: paper::page::node_page,
                 },
                 start: |checkpoint, start| match paper::start(checkpoint, start) {
                     Ok(node) => Ok(Box::new(node)),
@@ -62,6 +65,10 @@ macro_rules! second {
 
                 fn checkpoint(&self) -> Vec<u8> {
                     paper::Node::checkpoint(self)
+                }
+
+                fn page(&self, day: u32) -> Vec<String> {
+                    paper::Node::page(self, day)
                 }
 
                 fn image(&self) -> Vec<u8> {

@@ -16,6 +16,8 @@ pub struct Habits {
     pub queries: u32,
     /// Checkpoints:
     pub checkpoints: u32,
+    /// Pages:
+    pub pages: u32,
     /// Starts at a host that holds a node:
     pub restarts: u32,
     /// A login that much of the history is about, or 0.
@@ -31,6 +33,7 @@ impl Habits {
             short: rng.pick(&[0, 2, 5]),
             queries: rng.pick(&[5, 20, 40]),
             checkpoints: rng.pick(&[3, 8]),
+            pages: rng.pick(&[2, 6]),
             restarts: rng.pick(&[1, 4, 10]),
             focus: if rng.chance(25) {
                 values::any_login(rng)

@@ -11,7 +11,7 @@ use super::starts_queries;
 use super::states;
 use crate::compare::call::{Call, Event, History, Records};
 use crate::compare::check::hosts::Hosts;
-use crate::compare::fields::{OwnFields, StateFields, PRESENT, RETIRED};
+use crate::compare::fields::{OwnFields, StateFields, PRESENT};
 use crate::layout::{kind_of, CHECKPOINT_SIZE};
 use crate::paper::{Answer, Node};
 use std::collections::HashMap;
@@ -62,12 +62,14 @@ impl HistoryMaker {
         if left == 0 {
             host = self.rng.below(hosts.count());
         }
-        let records = match hosts.image(host) {
-            None => self.start(),
-            Some(image) if left > 0 => self.bad_query(&image),
-            Some(image) => self.records(hosts, host, &image),
+        let image = hosts.image(host).unwrap_or_default();
+        let records = match image.len() {
+            0 => self.start(),
+            _ if left > 0 => self.bad_query(&image),
+            _ => self.records(hosts, host, &image),
         };
-        let out = starts_queries::out_length(&mut self.rng, records.size(), self.habits.short);
+        let size = records.size(&image);
+        let out = starts_queries::out_length(&mut self.rng, size, self.habits.short);
         Call { host, records, out }
     }
 
@@ -93,13 +95,16 @@ impl HistoryMaker {
         let (Some(state), Some(own)) = (StateFields::read(image), OwnFields::read(image)) else {
             return Records::Checkpoint;
         };
-        let halted = state.seats[usize::from(own.seat & 31)].standing == RETIRED;
+        let halted = own.is_halted(&state);
         let restarts = if halted { 30 } else { self.habits.restarts };
         if self.rng.chance(restarts) {
             return self.start();
         }
         if self.rng.chance(self.habits.checkpoints) {
             return Records::Checkpoint;
+        }
+        if self.rng.chance(self.habits.pages) {
+            return starts_queries::page(&mut self.rng, &state);
         }
         if self.rng.chance(2) {
             self.bad_queries = (host, self.rng.within(9, 12));

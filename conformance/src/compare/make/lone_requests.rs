@@ -7,9 +7,10 @@ use super::records;
 use super::sheets;
 use super::starts_queries;
 use super::states;
+use super::values::LAST_DATE;
 use crate::compare::call::{Records, Request};
-use crate::compare::fields::{OwnFields, Proposal, StateFields};
-use crate::layout::{kind_of, CHECKPOINT_SIZE, IMAGE_SIZE};
+use crate::compare::fields::{Login, OwnFields, Proposal, StateFields};
+use crate::layout::{kind_of, CHECKPOINT_SIZE, LOGINS};
 
 /// Requests to one state.
 pub fn requests(rng: &mut Random) -> Vec<Request> {
@@ -38,21 +39,43 @@ pub fn ends() -> Vec<Request> {
     let mut early = StateFields::printed_run();
     early.day = 0;
     let grant = records::announcement(8, 1, 0, records::grant(1, 0, 1));
+    let request = |state: &StateFields, announcement: Vec<u8>| {
+        let sheet = records::sheet([1, 0], &[(0, 1), (1, 1)]);
+        to_member(state, Records::Deliver(announcement, sheet))
+    };
+    vec![request(&late, cancel), request(&early, grant)]
+}
+
+/// Pages of full lists with every end day that has a date, and with the first that has none.
+pub fn dates() -> impl Iterator<Item = Request> {
+    (0..=LAST_DATE + 1).step_by(LOGINS.most).map(|first| {
+        let rows = (0..LOGINS.most as u32).map(|place| Login {
+            login: 1 + place,
+            end: first + place,
+            rights: 1,
+        });
+        let mut state = StateFields::printed_run();
+        state.logins = rows.collect();
+        let page = Records::Page(state.day);
+        to_member(&state, page)
+    })
+}
+
+/// A request to a node of the printed run's seats.
+fn to_member(state: &StateFields, records: Records) -> Request {
     let own = OwnFields {
         seat: 0,
         life: 1,
         vote: None,
         misses: 0,
     };
-    let request = |state: &StateFields, announcement: Vec<u8>| {
-        let sheet = records::sheet([1, 0], &[(0, 1), (1, 1)]);
-        Request {
-            image: own.image(state),
-            records: Records::Deliver(announcement, sheet),
-            out: IMAGE_SIZE,
-        }
-    };
-    vec![request(&late, cancel), request(&early, grant)]
+    let image = own.image(state);
+    let out = records.size(&image);
+    Request {
+        image,
+        records,
+        out,
+    }
 }
 
 fn any_request(rng: &mut Random, state: &StateFields, own: &OwnFields) -> Request {
@@ -60,10 +83,11 @@ fn any_request(rng: &mut Random, state: &StateFields, own: &OwnFields) -> Reques
     if rng.chance(8) {
         image = spoiled(rng, state, own);
     }
-    let mut records = match rng.below(20) {
+    let mut records = match rng.below(22) {
         0..=10 => deliver(rng, state, own),
         11..=14 => Records::Query(starts_queries::query(rng, state)),
         15..=18 => start(rng, state),
+        19 | 20 => starts_queries::page(rng, state),
         _ => Records::Checkpoint,
     };
     if rng.chance(8) {
@@ -72,7 +96,7 @@ fn any_request(rng: &mut Random, state: &StateFields, own: &OwnFields) -> Reques
     if matches!(records, Records::Start(..)) {
         image.clear();
     }
-    let out = starts_queries::out_length(rng, records.size(), 4);
+    let out = starts_queries::out_length(rng, records.size(&image), 4);
     Request {
         image,
         records,
@@ -115,6 +139,6 @@ fn damage(rng: &mut Random, records: &mut Records) {
         Records::Deliver(announcement, _) if rng.chance(50) => malformed::bytes(rng, announcement),
         Records::Deliver(_, sheet) => malformed::sheet(rng, sheet),
         Records::Query(query) => malformed::bytes(rng, query),
-        Records::Checkpoint => {}
+        Records::Checkpoint | Records::Page(_) => {}
     }
 }

@@ -1,8 +1,9 @@
-//! Starts and queries aimed at a state, and lengths of output slices.
+//! Starts, queries and the days of pages aimed at a state, and lengths of output slices.
 
 use super::arguments;
 use super::random::Random;
 use super::records;
+use crate::compare::call::Records;
 use crate::compare::fields::{StateFields, CERTIFIED, PRESENT};
 use crate::layout::RIGHT;
 
@@ -31,8 +32,22 @@ pub fn query(rng: &mut Random, state: &StateFields) -> Vec<u8> {
     let row = state.logins.iter().find(|row| row.login == login);
     let end = row.map_or(state.day, |row| row.end);
     let rights = row.map_or(0, |row| row.rights);
+    let day = asked_day(rng, state, end);
+    let held: Vec<u8> = (0..=RIGHT.high as u8)
+        .filter(|&right| rights >> right & 1 == 1)
+        .collect();
+    let right = if held.is_empty() || rng.chance(20) {
+        rng.of(&RIGHT) as u8
+    } else {
+        rng.pick(&held)
+    };
+    records::query(login, day, right)
+}
+
+/// The given day of a query or a page: around the silence limit and an end day, or soon.
+fn asked_day(rng: &mut Random, state: &StateFields, end: u32) -> u32 {
     let limit = state.day.saturating_add(u32::from(state.silence));
-    let day = match rng.below(16) {
+    match rng.below(16) {
         0 => rng.near(limit),
         1 => rng.near(end),
         2 => limit,
@@ -44,16 +59,16 @@ pub fn query(rng: &mut Random, state: &StateFields) -> Vec<u8> {
         8 => limit.min(end),
         9 => rng.pick(&[0, u32::MAX]),
         _ => state.day.saturating_add(rng.within(0, 3)),
+    }
+}
+
+/// A page for a day that tells a listed login's line from the others.
+pub fn page(rng: &mut Random, state: &StateFields) -> Records {
+    let end = match state.logins.len() {
+        0 => state.day,
+        count => state.logins[rng.below(count)].end,
     };
-    let held: Vec<u8> = (0..=RIGHT.high as u8)
-        .filter(|&right| rights >> right & 1 == 1)
-        .collect();
-    let right = if held.is_empty() || rng.chance(20) {
-        rng.of(&RIGHT) as u8
-    } else {
-        rng.pick(&held)
-    };
-    records::query(login, day, right)
+    Records::Page(asked_day(rng, state, end))
 }
 
 /// A query that adds a miss where the misses are not 10: no such login, on the agreed day.
@@ -66,9 +81,9 @@ pub fn bad_query(rng: &mut Random, state: &StateFields) -> Vec<u8> {
 }
 
 /// The length of an output slice for `size` bytes: exact, longer and, with this chance in percent,
-/// shorter.
+/// shorter, where there is a shorter one.
 pub fn out_length(rng: &mut Random, size: usize, short: u32) -> usize {
-    if rng.chance(short) {
+    if rng.chance(short) && size > 0 {
         return match rng.below(3) {
             0 => size - 1,
             1 => rng.below(8),

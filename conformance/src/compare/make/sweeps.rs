@@ -15,10 +15,10 @@ use crate::layout::{kind_of, number_at, IMAGE_SIZE};
 /// What is done with each damaged request; an error ends the sweep.
 pub type Each<'a> = &'a mut dyn FnMut(&Request) -> Result<(), String>;
 
-/// The longest output slice.
-const LONGEST_OUT: usize = IMAGE_SIZE + 11;
+/// How many bytes longer than the longest output the longest output slice is.
+const SPARE: usize = 11;
 
-/// Requests to be damaged: a start, a query, a checkpoint and a delivery of each kind.
+/// Requests to be damaged: a start, a query, a checkpoint, a page and a delivery of each kind.
 pub fn bases(rng: &mut Random) -> Vec<Request> {
     let state = states::any_state(rng);
     let own = states::any_own(rng, &state);
@@ -27,15 +27,20 @@ pub fn bases(rng: &mut Random) -> Vec<Request> {
         Records::Start(state.write(), start),
         Records::Query(starts_queries::query(rng, &state)),
         Records::Checkpoint,
+        starts_queries::page(rng, &state),
     ];
     bases.extend((1..10).map(|kind| delivery(rng, &state, kind)));
-    let request = |records| Request {
-        image: match records {
+    let request = |records: Records| {
+        let image = match records {
             Records::Start(..) => Vec::new(),
             _ => own.image(&state),
-        },
-        records,
-        out: IMAGE_SIZE,
+        };
+        let out = records.size(&image).max(IMAGE_SIZE);
+        Request {
+            image,
+            records,
+            out,
+        }
     };
     bases.into_iter().map(request).collect()
 }
@@ -58,7 +63,7 @@ pub fn sweep(rng: &mut Random, base: &Request, each: Each) -> Result<(), String>
     for place in 0..slices(base).len() {
         sweep_slice(rng, base, place, each)?;
     }
-    for out in 0..=LONGEST_OUT {
+    for out in 0..=base.out + SPARE {
         each(&Request {
             out,
             ..base.clone()
@@ -73,7 +78,7 @@ fn slices(request: &Request) -> Vec<&Vec<u8>> {
         Records::Start(checkpoint, start) => vec![checkpoint, start],
         Records::Deliver(announcement, sheet) => vec![&request.image, announcement, sheet],
         Records::Query(query) => vec![&request.image, query],
-        Records::Checkpoint => vec![&request.image],
+        Records::Checkpoint | Records::Page(_) => vec![&request.image],
     }
 }
 
@@ -85,7 +90,7 @@ fn slice_mut(request: &mut Request, place: usize) -> &mut Vec<u8> {
         (Records::Deliver(announcement, _), 1) => announcement,
         (Records::Deliver(_, sheet), _) => sheet,
         (Records::Query(query), _) => query,
-        (Records::Checkpoint, _) => &mut request.image,
+        (Records::Checkpoint | Records::Page(_), _) => &mut request.image,
     }
 }
 

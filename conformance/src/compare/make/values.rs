@@ -73,14 +73,24 @@ pub fn any_rights(rng: &mut Random) -> u16 {
     }
 }
 
-/// End days around a day and around the silence limit after it.
+/// Days around the ends of February, with and without a leap day, and around the last that a page
+/// has a date for.
+const CALENDAR: [u32; 12] = [
+    58, 59, 788, 789, 790, 11015, 11016, 11017, 47480, LAST_DATE, 47482, 47540,
+];
+/// 2099-12-31
+pub const LAST_DATE: u32 = 47_481;
+
+/// End days around a day and around the silence limit after it, and days whose dates are hard.
 pub fn end_day(rng: &mut Random, state: &StateFields, day: u32) -> u32 {
-    match rng.below(8) {
+    match rng.below(10) {
         0 => rng.pick(&[0, u32::MAX]),
         1 => rng.near(day),
         2 => rng.near(day.saturating_add(u32::from(state.silence))),
         3 => day,
         4 => rng.any32(),
+        5 => rng.pick(&CALENDAR),
+        6 => rng.within(0, LAST_DATE),
         _ => day.saturating_add(rng.within(0, 60)),
     }
 }

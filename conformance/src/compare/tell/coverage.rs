@@ -1,19 +1,19 @@
-//! What the calls met: answers by call, actions, both ends of every range.
+//! What the calls met: answers by call, actions, both ends of every range, pages at their edges.
 
-use super::ranges::{Range, ANNOUNCED, HEAD, PERFORMED, RANGES};
-use crate::compare::call::{Outcome, Records, Request, VOTED};
-use crate::compare::fields::{OwnFields, Seat, StateFields};
+use super::ranges::{Range, ANNOUNCED, DATES, HEAD, PERFORMED, RANGES};
+use crate::compare::call::{Outcome, Records, Request, CALLS, VOTED};
+use crate::compare::fields::{Login, OwnFields, Seat, StateFields};
 use crate::layout::{self, kind_of, BODY, CHECKPOINT, CYCLE_AND_DAY, MASKS, QUERY, ROW, ROWS};
 use crate::layout::{ROW_SIZE, START};
 
 pub struct Coverage {
     pub calls: u64,
-    /// By call and answer, 0 to 22 and 128.
-    pub answers: [[u64; 129]; 4],
+    /// By call and answer, 0 to 23 and 128.
+    pub answers: [[u64; 129]; CALLS.len()],
     pub performed: [u64; 10],
     pub voted: [u64; 10],
     /// By call: output slices one byte short, exact, longer.
-    pub slices: [[u64; 3]; 4],
+    pub slices: [[u64; 3]; CALLS.len()],
     pub low: Vec<u64>,
     pub high: Vec<u64>,
 }
@@ -23,10 +23,10 @@ impl Coverage {
         let none = vec![0; RANGES.len()];
         Coverage {
             calls: 0,
-            answers: [[0; 129]; 4],
+            answers: [[0; 129]; CALLS.len()],
             performed: [0; 10],
             voted: [0; 10],
-            slices: [[0; 3]; 4],
+            slices: [[0; 3]; CALLS.len()],
             low: none.clone(),
             high: none,
         }
@@ -36,7 +36,7 @@ impl Coverage {
         let call = request.records.index();
         self.calls += 1;
         self.answers[call][outcome.number.min(128) as usize] += 1;
-        let size = request.records.size();
+        let size = request.size();
         match request.out {
             out if out + 1 == size => self.slices[call][0] += 1,
             out if out == size => self.slices[call][1] += 1,
@@ -69,6 +69,8 @@ impl Coverage {
                 self.meet_all(&ranges, &values);
             }
             Records::Checkpoint => {}
+            Records::Page(day) if outcome.number == 0 => self.note_page(request, *day),
+            Records::Page(_) => {}
         }
         self.note_state(&request.image);
         self.note_own(&request.image);
@@ -84,6 +86,13 @@ impl Coverage {
     fn meet_all(&mut self, ranges: &[Range], values: &[u32]) {
         for (range, value) in ranges.iter().zip(values) {
             self.meet(*range, *value);
+        }
+    }
+
+    /// How far a number is beyond an edge; nothing before it.
+    fn meet_beyond(&mut self, range: Range, value: u32, edge: u32) {
+        if let Some(beyond) = value.checked_sub(edge) {
+            self.meet(range, beyond);
         }
     }
 
@@ -121,6 +130,40 @@ impl Coverage {
         self.meet(Range::OwnLife, own.life);
         self.meet(Range::Voted, u32::from(own.vote.is_some()));
         self.meet(Range::Misses, own.misses);
+    }
+
+    /// A page that was given.
+    fn note_page(&mut self, request: &Request, day: u32) {
+        let image = &request.image;
+        let (Some(state), Some(own)) = (StateFields::read(image), OwnFields::read(image)) else {
+            return;
+        };
+        let lines = state.logins.len() as u32;
+        let t = day.max(state.day);
+        let (age, limit) = (t - state.day, u32::from(state.silence));
+        match lines {
+            0 => self.meet(Range::PageRoom, request.out as u32),
+            _ => self.meet_beyond(Range::PageSilence, age, limit),
+        }
+        self.meet_all(&[Range::PageLines, Range::PageDay], &[lines, day]);
+        self.meet(Range::PageDayBack, u32::from(day < state.day));
+        self.meet(Range::PageHalted, u32::from(own.is_halted(&state)));
+        self.meet(Range::PageMisses, own.misses);
+        for row in &state.logins {
+            self.note_line(row, t, age > limit);
+        }
+    }
+
+    fn note_line(&mut self, row: &Login, t: u32, is_silent: bool) {
+        match is_silent {
+            true => self.meet(Range::PageSilentEnded, u32::from(t > row.end)),
+            false => self.meet_beyond(Range::PageEnded, t, row.end),
+        }
+        self.meet(Range::PageLogin, row.login);
+        self.meet(Range::PageRights, row.rights.count_ones());
+        for range in DATES {
+            self.meet(range, row.end);
+        }
     }
 
     fn note_sheet(&mut self, sheet: &[u8]) {

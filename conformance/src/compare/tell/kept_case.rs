@@ -3,6 +3,7 @@
 
 use crate::compare::call::{Call, History, Records, Request};
 use crate::text::{show, show_image};
+use std::str::FromStr;
 
 /// What a difference was found on.
 #[derive(Clone, PartialEq, Debug)]
@@ -13,8 +14,11 @@ pub enum Case {
     Stream(Vec<u8>),
 }
 
-/// The records of a call in the words of `records`.
+/// The records of a call in the words of `records`, or the day of a page.
 pub fn words_of(records: &Records) -> String {
+    if let Records::Page(day) = records {
+        return format!("page for day {day}\n");
+    }
     let words = records
         .in_order()
         .into_iter()
@@ -58,6 +62,7 @@ fn records_line(records: &Records) -> String {
         }
         Records::Query(query) => format!("query {}", hex(query)),
         Records::Checkpoint => "checkpoint".to_string(),
+        Records::Page(day) => format!("page {day}"),
     }
 }
 
@@ -111,7 +116,7 @@ fn read_line(history: &mut History, words: &[&str]) -> Result<Option<Case>, Stri
             return Ok(Some(Case::Single(Request {
                 image: bytes(image)?,
                 records: read_records(records)?,
-                out: count(out)?,
+                out: number(out)?,
             })))
         }
         ["first", first] => history.first = bytes(first)?,
@@ -119,7 +124,7 @@ fn read_line(history: &mut History, words: &[&str]) -> Result<Option<Case>, Stri
             history.by_value = hosts.iter().map(|host| *host == "value").collect();
         }
         ["call", host, out, records @ ..] => {
-            let (host, out) = (count(host)?, count(out)?);
+            let (host, out) = (number(host)?, number(out)?);
             if host >= history.by_value.len() {
                 return Err(format!("host {host} is not among the hosts"));
             }
@@ -151,7 +156,7 @@ fn write_history(history: &History) -> String {
     text
 }
 
-fn count(word: &str) -> Result<usize, String> {
+fn number<T: FromStr>(word: &str) -> Result<T, String> {
     word.parse().map_err(|_| format!("not a number: {word}"))
 }
 
@@ -161,6 +166,7 @@ fn read_records(words: &[&str]) -> Result<Records, String> {
         ["deliver", announcement, sheet] => Records::Deliver(bytes(announcement)?, bytes(sheet)?),
         ["query", query] => Records::Query(bytes(query)?),
         ["checkpoint"] => Records::Checkpoint,
+        ["page", day] => Records::Page(number(day)?),
         _ => return Err(format!("not a call: {}", words.join(" "))),
     })
 }

@@ -1,4 +1,5 @@
-//! The ranges whose both ends the calls must meet.
+//! The ranges whose both ends the calls must meet, and the edges of pages, each as a range of its two
+//! sides.
 
 use crate::layout::VOTED;
 use crate::layout::{
@@ -89,6 +90,22 @@ ranges! {
     DoneEnd (1, MAX), "performed end: login";
     DoneDay of(CYCLE_AND_DAY[1]), "performed: announced day";
     DoneCycle (1, MAX - 1), "performed: cycle";
+    PageLines (0, LOGINS.most as u32), "page: lines";
+    PageRoom (0, 1), "page: output slice for no lines";
+    PageDay (0, MAX), "page: given day";
+    PageDayBack (0, 1), "page: given day before the agreed day";
+    PageSilence (0, 1), "page: days of t beyond the silence limit";
+    PageEnded (0, 1), "page: days of t after an end day";
+    PageSilentEnded (0, 1), "page: silent, and t after an end day";
+    PageHalted (0, 1), "page: own seat retired";
+    PageMisses of(MISSES), "page: own misses";
+    PageLogin of(LOGIN[0]), "page: login";
+    PageRights (1, 16), "page: rights held";
+    PageEnd of(LOGIN[1]), "page: end day";
+    PageMarch (58, 59), "page: last of February and first of March 1970";
+    PageLeap (788, 790), "page: days beside the leap day of 1972";
+    PageLeapDay (789, 11_016), "page: leap days of 1972 and 2000";
+    PageLastDate (47_481, 47_482), "page: last end day with a date and the next";
 }
 
 /// The ranges of a checkpoint's fields before its tables.
@@ -133,4 +150,13 @@ pub const PERFORMED: [&[Range]; 10] = [
         Range::DoneGrantRights,
     ],
     &[Range::DoneEnd],
+];
+
+/// The end days whose dates a page must have given.
+pub const DATES: [Range; 5] = [
+    Range::PageEnd,
+    Range::PageMarch,
+    Range::PageLeap,
+    Range::PageLeapDay,
+    Range::PageLastDate,
 ];

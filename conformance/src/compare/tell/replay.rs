@@ -1,7 +1,7 @@
 //! A kept case run again and shown step by step, in the words of `records`.
 
 use super::kept_case::{words_of, Case};
-use crate::compare::call::{Event, History, Request};
+use crate::compare::call::{Event, History, Outcome, Records, Request};
 use crate::compare::check::second::Second;
 use crate::compare::check::{one_call, program, rerun};
 use crate::compare::fields::{OwnFields, StateFields};
@@ -43,7 +43,7 @@ fn replay_history(second: &'static Second, history: &History) -> Result<(), Stri
     let mut show_call = |place: usize, event: Option<&Event>| {
         title(place);
         match event {
-            Some(event) => println!("Answer {}{}", event.outcome.number, held(event)),
+            Some(event) => println!("{}{}", answered(&event.outcome), left(event)),
             None => println!("Not made: the host holds no node"),
         }
     };
@@ -58,7 +58,30 @@ fn replay_history(second: &'static Second, history: &History) -> Result<(), Stri
     Ok(())
 }
 
-/// What the node holds after a call, or the checkpoint that it gave.
+/// The answer, and the count where there is one.
+fn answered(outcome: &Outcome) -> String {
+    match outcome.count {
+        0 => format!("Answer {}", outcome.number),
+        count => format!("Answer {}, count {count}", outcome.number),
+    }
+}
+
+/// What a call left: what the node holds after it, or the checkpoint or page that it gave.
+fn left(event: &Event) -> String {
+    match event.request.records {
+        Records::Page(_) => page(&event.outcome),
+        _ => held(event),
+    }
+}
+
+/// The lines of a page, if one was given.
+fn page(outcome: &Outcome) -> String {
+    let written = outcome.written.as_deref().unwrap_or_default();
+    let lines = program::lines(written).into_iter();
+    let lines = lines.take(outcome.count as usize);
+    lines.map(|line| format!("\n  {line}")).collect()
+}
+
 fn held(event: &Event) -> String {
     let after = event.outcome.written.as_ref();
     let image = after.unwrap_or(&event.request.image);
@@ -80,7 +103,7 @@ fn replay_single(second: &Second, request: &Request) -> Result<(), String> {
     }
     print!("The records:\n{}", words_of(&request.records));
     let outcome = one_call::compare_all(second, request)?;
-    println!("Answer {}", outcome.number);
+    println!("{}{}", answered(&outcome), page(&outcome));
     Ok(())
 }
 

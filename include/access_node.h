@@ -154,7 +154,7 @@ uint32_t node_checkpoint(const uint8_t *image, size_t image_length,
  * count from 1970-01-01. A slice of ACCESS_NODE_PAGE_SIZE(ACCESS_NODE_MOST_LOGINS) bytes holds every
  * page; there is no zero byte behind it. Halted and locked nodes give their page too.
  * Refusals: 1, 23. Writes the page with 0, and no image; ACCESS_NODE_COUNT is its number of lines. */
-#define ACCESS_NODE_STACK_PAGE 8192
+#define ACCESS_NODE_STACK_PAGE 4096
 uint32_t node_page(const uint8_t *image, size_t image_length, uint32_t day,
                    uint8_t *page_out, size_t page_out_length);
 

@@ -22,6 +22,16 @@ pub record Line : Type 0 where
   pub rights : ℕ
   pub word : Word
 
+-- in ASCII
+abbrev pub space : ℕ
+space = 32
+
+abbrev pub hyphen : ℕ
+hyphen = 45
+
+abbrev pub lineFeed : ℕ
+lineFeed = 10
+
 -- ---- the columns
 
 -- "login right-aligned in 10"
@@ -30,7 +40,7 @@ loginColumn = record { width = 10; encode = λ x. aligned 10 x; decode = λ b. n
 
 -- "end date as year-month-day in 10"; "End days after 47481 (2099-12-31) print as ten hyphens."
 abbrev pub endText : Option ℕ → List ℕ
-endText none = replicate 10 45
+endText none = replicate 10 hyphen
 endText (some n) = dayText n
 
 abbrev pub HasDate : Option ℕ → Type 0
@@ -40,15 +50,19 @@ HasDate (some n) = n ≤ lastDay
 abbrev pub endColumn : Codec (Option ℕ)
 endColumn = record { width = 10; encode = endText; decode = λ b. dayIn (take 10 b); Fits = HasDate }
 
--- "16 places for rights (letter A to P where bit 0 to 15 is held, else a hyphen)": n places, from that of right i on
+-- "16 places for rights (letter A to P where bit 0 to 15 is held, else a hyphen)": the place of right i
+abbrev pub place : ℕ → ℕ → ℕ
+place i rights = cond (isHeld i rights) (65 + i) hyphen
+
+-- n places, from that of right i on
 unfoldable pub places : ℕ → ℕ → ℕ → List ℕ
 places zero i rights = []
-places (suc n) i rights = cond (isHeld i rights) (65 + i) 45 ∷ places n (suc i) rights
+places (suc n) i rights = place i rights ∷ places n (suc i) rights
 
 -- and back: the places are the bits, from the lowest on
 unfoldable pub rightsIn : List ℕ → ℕ
 rightsIn [] = 0
-rightsIn (c ∷ cs) = cond (eqb c 45) 0 1 + 2 * rightsIn cs
+rightsIn (c ∷ cs) = cond (eqb c hyphen) 0 1 + 2 * rightsIn cs
 
 abbrev pub rightsColumn : Codec ℕ
 rightsColumn = record { width = 16; encode = λ x. places rightCount 0 x; decode = λ b. rightsIn (take 16 b); Fits = λ x. x < 2 ^ 16 }
@@ -72,12 +86,6 @@ infixl 70 _then_
 -- a column, and a character behind it
 abbrev pub _then_ : {A : Type 0} → Codec A → ℕ → Codec A
 _then_ f c = record { width = f .width + 1; encode = λ x. f .encode x ++ (c ∷ []); decode = f .decode; Fits = f .Fits }
-
-abbrev pub space : ℕ
-space = 32
-
-abbrev pub lineFeed : ℕ
-lineFeed = 10
 
 abbrev pub Columns : Type 0
 Columns = ℕ × (Option ℕ × (ℕ × Word))

@@ -25,6 +25,7 @@ wordOf silent t r = cond silent Silent (cond (isEnded t r) Ended Open)
 abbrev pub endShown : Day → Option ℕ
 endShown end = cond (ltb lastDay (end .0)) none (some (end .0))
 
+-- what the line of a row says
 abbrev pub lineOf : Bool → Day → Login → Line
 lineOf silent t r = record { login = r .login; end = endShown (r .end); rights = r .rights; word = wordOf silent t r }
 
@@ -36,13 +37,14 @@ listed rows = keep isLogin rows
 abbrev pub lineCount : State → ℕ
 lineCount s = count isLogin (s .logins)
 
+-- the lines of a table's rows
 unfoldable pub linesOf : Bool → Day → List Login → List ℕ
 linesOf silent t rows = encodeRows line (map (lineOf silent t) (listed rows))
 
--- whether the page of a given day is silent: "The last word must agree with what rules 18 and 20 give for the given day.", for t, "the later of given
--- and agreed day"
+-- the state is silent on the given day, by rule 18: t is "the later of given and agreed day"
 abbrev pub isSilentOn : State → Day → Bool
 isSilentOn s given = isSilent (s .day) (s .minima .silence) (laterDay given (s .day))
 
+-- "The last word must agree with what rules 18 and 20 give for the given day.": both look at t
 unfoldable pub pageText : State → Day → List ℕ
 pageText s given = linesOf (isSilentOn s given) (laterDay given (s .day)) (s .logins)

@@ -1,11 +1,10 @@
 // The columns of a line, each with the character behind it.
 ghost use mathlib.Core.Path.{_≡_};
-ghost use mathlib.Core.Bool.{cond};
 ghost use Prim.Native.Nat.{_+_, _≤_, _<_};
 ghost use lib.ListN.{length};
 ghost use Rattle.binary.specs.Splice.{splice};
-ghost use Rattle.state.specs.Rows.{isHeld};
-ghost use Rattle.page.specs.Line.{loginColumn, endColumn, rightsColumn, wordColumn, _then_, space, lineFeed};
+ghost use Rattle.state.specs.Limits.{rightCount};
+ghost use Rattle.page.specs.Line.{loginColumn, endColumn, rightsColumn, place, wordColumn, _then_, space, lineFeed};
 ghost use Rattle.page.specs.Page.{endShown};
 use crate::Word;
 use binary::put_bytes;
@@ -50,8 +49,8 @@ pub fn put_end(out: &mut [u8], at: usize, end: Day)
 
 // The letter of a right that is held, else a hyphen.
 fn place_of(rights: u16, right: u8) -> u8
-    requires { ⌜ right < 16 ⌝ }
-    ensures { λ r. ⌜ r ≡ cond (isHeld right rights) (65 + right) 45 ⌝ }
+    requires { ⌜ right < rightCount ⌝ }
+    ensures { λ r. ⌜ r ≡ place right rights ⌝ }
 {
     if is_held(rights, right) {
         LETTER + right
@@ -78,9 +77,14 @@ pub fn put_word(out: &mut [u8], at: usize, word: Word)
     ensures { λ _. ⌜ now (out .exit) ≡ splice (now (out .entry)) at ((wordColumn then lineFeed) .encode word) ⌝ }
 {
     match word {
-        Word::Open => put_bytes(out, at, b"open   \n"),
-        Word::Ended => put_bytes(out, at, b"ended  \n"),
-        Word::Silent => put_bytes(out, at, b"silent \n"),
+        Word::Open => {
+            put_bytes(out, at, b"open   \n");
+        }
+        Word::Ended => {
+            put_bytes(out, at, b"ended  \n");
+        }
+        Word::Silent => {
+            put_bytes(out, at, b"silent \n");
+        }
     }
-    ;
 }

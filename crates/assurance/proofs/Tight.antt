@@ -3,13 +3,14 @@ use mathlib.Core.Path.{_≡_, refl, sym, ap, _∙_, subst}
 use mathlib.Core.Bool.{Bool, true, false, not, _&&_, and-eq-true-iff, false≢true}
 use mathlib.Core.List.{List, [], _∷_, List·Memᴰ·head, List·Memᴰ·tail, map}
 use mathlib.Core.Option.{Option, none, some}
-use Prim.Native.Nat.{ℕ, zero, suc, _+_, _*_, _≤_}
+use Prim.Native.Nat.{ℕ, _+_, _*_}
 use native.Mathlib.Nat.{le-trans}
 use native.Mathlib.Omega.{arith}
 use lib.Dec.{eqb, leb}
 use lib.ListN.{length, replicate}
-use borrow.Author.Tests.{eqb-true, eqb-false, leb-true, not-true}
+use borrow.Author.Tests.{eqb-true, leb-true, not-true}
 use Rattle.lists.specs.Fold.{all}
+use Rattle.lists.proofs.Tests.{allBelow, passes-below}
 use Rattle.lists.proofs.Every as Every
 use Rattle.lists.proofs.Every.{All, all-of}
 use Rattle.state.specs.Time.{cycle}
@@ -119,23 +120,9 @@ tested m e =
           (throughC 1) (t .1 .1 .1 .1 .1 .1);
     }
 
--- the test passes up to n
-unfoldable upTo : (ℕ → Bool) → ℕ → Bool
-upTo p zero = p zero
-upTo p (suc n) = p (suc n) && upTo p n
-
-up-to : (p : ℕ → Bool) (n : ℕ) → upTo p n ≡ true → (m : ℕ) → m ≤ n → p m ≡ true
-unfolding upTo
-up-to p zero e m h = let z : m ≡ 0 = omega arith in rw z e
-up-to p (suc n) e m h = let t = simp and-eq-true-iff at e in at (eqb m (suc n)) refl (t .0) (up-to p n (t .1) m)
-  where
-    at : (b : Bool) → eqb m (suc n) ≡ b → p (suc n) ≡ true → (m ≤ n → p m ≡ true) → p m ≡ true
-    at true s f g = rw (eqb-true m (suc n) s) f
-    at false s f g = let o = eqb-false m (suc n) s in g (omega (arith, o))
-
-all-margins : upTo test 7 ≡ true
-unfolding calls-at-hosts test upTo runAll sheetOf rowsBelow countedOnBoth
+all-margins : allBelow test 8 ≡ true
+unfolding calls-at-hosts test allBelow runAll sheetOf rowsBelow countedOnBoth
 all-margins = refl
 
 pub bound-is-tight : BoundIsTight
-bound-is-tight m h = tested m (up-to test 7 all-margins m h)
+bound-is-tight m h = tested m (passes-below test 8 all-margins m (omega arith))

@@ -6,22 +6,11 @@ use mathlib.Core.Path.{_≡_, refl}
 use mathlib.Core.Bool.{Bool, true, false, cond, _&&_, Bool·beq, and-eq-true-iff, false≢true}
 use lib.Dec.{eqb, ltb, leb}
 use borrow.Author.Tests.{ltb-true, leb-true, eqb-true, eqb-false}
-use Rattle.lists.proofs.Tests.{cond-cases}
+use Rattle.lists.proofs.Tests.{cond-cases, allBelow, passes-below}
 use Rattle.calendar.specs.Calendar.{date, isLeap, monthDays, dateOf, monthsDays, yearsDays, dayOf}
 use Rattle.calendar.specs.Code.{stretched}
 use Rattle.calendar.specs.Text.{lastDay}
 use Rattle.calendar.proofs.Dates.{date-found}
-
--- a test of every number below n, which antt computes
-allBelow : (ℕ → Bool) → ℕ → Bool
-allBelow f zero = true
-allBelow f (suc n) = f 0 && allBelow (λ k. f (suc k)) n
-
-passes : (f : ℕ → Bool) (n : ℕ) → allBelow f n ≡ true → (i : ℕ) → i < n → f i ≡ true
-unfolding allBelow
-passes f zero e i h = absurd (omega arith)
-passes f (suc n) e zero h = and-eq-true-iff (f 0) (allBelow (λ k. f (suc k)) n) .0 e .0
-passes f (suc n) e (suc i) h = passes (λ k. f (suc k)) n (and-eq-true-iff (f 0) (allBelow (λ k. f (suc k)) n) .0 e .1) i (omega arith)
 
 -- ---- years
 
@@ -41,7 +30,7 @@ same-truth false false e = refl
 
 pub fourth-is-leap : (k : ℕ) → k < 130 → isLeap (1970 + k) ≡ eqb ((k + 2) % 4) 0
 unfolding fourthIsLeap
-fourth-is-leap k h = same-truth _ _ (passes fourthIsLeap 130 all-fourth k h)
+fourth-is-leap k h = same-truth _ _ (passes-below fourthIsLeap 130 all-fourth k h)
 
 -- the days of the first k years
 abbrev pub yearStart : ℕ → ℕ
@@ -116,7 +105,7 @@ all-in-month false = refl
 pub month-found : (leap : Bool) (n d : ℕ) → d ≡ stretched leap n → n < cond leap 366 365 → InMonth leap n d
 unfolding isInMonth
 month-found leap n d e h =
-    let t = simp and-eq-true-iff at (passes (isInMonth leap) (cond leap 366 365) (all-in-month leap) n h) in
+    let t = simp and-eq-true-iff at (passes-below (isInMonth leap) (cond leap 366 365) (all-in-month leap) n h) in
     rw e (omega (arith, ltb-true, leb-true, eqb-true))
 
 -- a year has at most 366 days

@@ -11,13 +11,17 @@ use borrow.Author.Tests.{eqb-true, eq-eqb, ne-eqb, not-true}
 use Rattle.lists.specs.Fold.{countFrom, Distinct}
 use Rattle.lists.specs.Table.{keep}
 use Rattle.lists.proofs.Tests.{cond-cases}
-use Rattle.lists.proofs.Every.{All, more}
+use Rattle.lists.proofs.Every.{All, none, more}
 
 -- ---- members
 
 pub all-in : {A : Type 0} {P : A → Type 0} {x : A} {xs : List A} → All P xs → List·Memᴰ x xs → P x
 all-in (more h t) (List·Memᴰ·head e) = rw e h
 all-in (more h t) (List·Memᴰ·tail m) = all-in t m
+
+pub all-members : {A : Type 0} {P : A → Type 0} (xs : List A) → ((x : A) → List·Memᴰ x xs → P x) → All P xs
+all-members [] h = none
+all-members (x ∷ xs) h = more (h x (List·Memᴰ·head refl)) (all-members xs (λ y m. h y (List·Memᴰ·tail m)))
 
 module _ {A B : Type 0} (f : A → B) where
   pub to-map : {x : A} {xs : List A} → List·Memᴰ x xs → List·Memᴰ (f x) (map f xs)

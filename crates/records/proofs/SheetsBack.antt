@@ -8,9 +8,10 @@ use lib.Dec.{ltb}
 use lib.ListN.{length}
 use borrow.Author.Tests.{eq-eqb, lt-ltb, le-leb}
 use Rattle.lists.specs.Fold.{all}
+use Rattle.lists.proofs.Members.{all-members}
 use Rattle.binary.specs.Number.{toBytes, fromBytes, field}
 use Rattle.binary.specs.Codec.{encodeRows, decodeRows, FitsRows}
-use Rattle.binary.proofs.Codec.{Laws, read-back, byte-laws, number-laws, _⊗-laws_, onto-laws, rows-back}
+use Rattle.binary.proofs.Codec.{Laws, read-back, byte-laws, number-laws, _⊗-laws_, onto-laws, rows-back, fits-rows}
 use Rattle.state.specs.Limits.{seatCount}
 use Rattle.records.specs.Sheet.{Row, row, rowsOf, isSheet, sheetOf}
 use Rattle.records.specs.Claims.{RowsAreSized, RowInRange, SheetsReadBack}
@@ -22,9 +23,7 @@ row-laws : Laws row
 row-laws = onto-laws _ _ (λ x. refl) (λ a. refl) (byte-laws ⊗-laws number-laws 4)
 
 fit : (rows : List Row) → ((r : Row) → List·Memᴰ r rows → RowInRange r) → FitsRows row (length rows) rows
-unfolding FitsRows
-fit [] h = tt
-fit (r ∷ rs) h = let t = h r (List·Memᴰ·head refl) in ((omega arith, omega arith), fit rs (λ x m. h x (List·Memᴰ·tail m)))
+fit rows h = fits-rows row (all-members rows (λ r m. (let t = h r m in (omega arith, omega arith))))
 
 seats-below : (rows : List Row) → ((r : Row) → List·Memᴰ r rows → RowInRange r) → all (λ r. ltb (r .seat) seatCount) rows ≡ true
 unfolding all

@@ -36,7 +36,7 @@ fourth-is-leap k h = same-truth _ _ (passes-below fourthIsLeap 130 all-fourth k 
 abbrev pub yearStart : ℕ → ℕ
 yearStart k = 365 * k + (k + 1) / 4
 
-pub year-start : (k : ℕ) → k ≤ 130 → yearsDays k ≡ yearStart k
+year-start : (k : ℕ) → k ≤ 130 → yearsDays k ≡ yearStart k
 unfolding yearsDays
 year-start zero h = refl
 year-start (suc k) h =

@@ -17,7 +17,7 @@ use Rattle.calendar.specs.Text.{dateText, dayText, isDate, dateIn, dayIn
 use Rattle.calendar.specs.Claims.{DayReadBack, HasDay, TextWrittenBack}
 use Rattle.calendar.proofs.Dates.{is-valid, month-long, day-of-date, dates-of-days, date-of-day}
 
-pub length-dayText : (n : ℕ) → length (dayText n) ≡ 10
+length-dayText : (n : ℕ) → length (dayText n) ≡ 10
 unfolding dayText padded
 length-dayText n = refl
 

@@ -55,7 +55,7 @@ word-read Open t = refl
 word-read Ended t = refl
 word-read Silent t = refl
 
-pub word-back : ReadsBack wordColumn
+word-back : ReadsBack wordColumn
 word-back = record { long = λ w h. word-long w; back = λ w h t. word-read w t }
 
 pub then-back : {A : Type 0} {f : Codec A} → ReadsBack f → (c : ℕ) → ReadsBack (f then c)

@@ -2,9 +2,9 @@
  *
  * Usage: access_page IMAGE DAY
  *
- * IMAGE is a file with the image that a hub keeps, DAY a count of days from 1970-01-01. Exit status: 0
- * the page is printed (an empty list has an empty page), 1 the file is no image, 2 wrong use, or a file
- * that can't be read or written.
+ * IMAGE is a file with the image that a hub keeps, DAY a count of days from 1970-01-01. Exit status:
+ * 0 the page is printed (an empty list has an empty page), 1 the file is no image, 2 wrong use, or a
+ * file that can't be read or written.
  */
 #include "access_node.h"
 
@@ -59,7 +59,8 @@ int main(int words, char **word) {
         return WRONG_USE;
     }
     if (!read_day(word[2], &day))
-        return refuse(WRONG_USE, "the day is not a count from 1970-01-01, 0 to 4294967295", word[2]);
+        return refuse(WRONG_USE, "the day is not a count from 1970-01-01, 0 to 4294967295",
+                      word[2]);
     size_t length = read_file(word[1], image, sizeof image);
     if (length == SIZE_MAX)
         return refuse(WRONG_USE, strerror(errno), word[1]);
@@ -67,7 +68,8 @@ int main(int words, char **word) {
         return refuse(NO_IMAGE, "the file is no image, which has 1,139 bytes", word[1]);
     uint32_t returned = node_page(image, length, day, page, sizeof page);
     if (ACCESS_NODE_ANSWER(returned) != ACCESS_NODE_OK)
-        return refuse(NO_IMAGE, "the file is no well-formed image; `records show --image` says why", word[1]);
+        return refuse(NO_IMAGE, "the file is no well-formed image; `records show --image` says why",
+                      word[1]);
     size_t size = ACCESS_NODE_PAGE_SIZE((size_t)ACCESS_NODE_COUNT(returned));
     if (fwrite(page, 1, size, stdout) != size || fflush(stdout) != 0)
         return refuse(WRONG_USE, strerror(errno), "standard output");

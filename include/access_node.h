@@ -22,8 +22,8 @@
  *
  * Return value. The low 8 bits are the answer (ACCESS_NODE_ANSWER): ACCESS_NODE_OK,
  * ACCESS_NODE_VOTED or the number of the refusal. The bits above are a count (ACCESS_NODE_COUNT):
- * the lines of a page that is given; 0 for every refusal and for the other calls. The rules are tried
- * in this order: 1, 2, 22 (a page: 23), then the others from the lowest number up.
+ * the lines of a page that is given; 0 for every refusal and for the other calls. The rules are
+ * tried in this order: 1, 2, 22 (a page: 23), then the others from the lowest number up.
  *
  * Output. A call writes a whole image, checkpoint or page to the front of its output slice, or leaves
  * the slice as it was. A longer slice keeps its tail.
@@ -31,7 +31,8 @@
  * Threads. The library has no variables of its own: calls on different slices may run at once.
  *
  * Work. Each call returns for every input. No loop runs over more than a checkpoint's 1,108 bytes,
- * 64 rows, 32 seats or 16 proposals, or 64 lines of 47 characters; docs/PERFORMANCE.md has the instructions of each call.
+ * 64 rows, 32 seats, 16 proposals or the 47 characters of a page's 64 lines; docs/PERFORMANCE.md has
+ * the instructions of each call.
  *
  * Stack. ACCESS_NODE_STACK_* is the most that a call was measured to use (tests/stack_use.c), in
  * bytes, rounded up with at least 512 to spare.
@@ -51,8 +52,8 @@
 extern "C" {
 #endif
 
-/* Which calls, records and rules this header is for. Images of two editions are not to be mixed, but for
- * those of 1 and 2: edition 2 adds node_page and changes nothing else. */
+/* Which calls, records and rules this header is for. Images of two editions are not to be mixed, but
+ * for those of 1 and 2: edition 2 adds node_page and changes nothing else. */
 #define ACCESS_NODE_EDITION 2
 
 /* Sizes of whole records. A sheet has 0 to ACCESS_NODE_MOST_ROWS rows. */

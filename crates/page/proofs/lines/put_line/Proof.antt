@@ -55,9 +55,10 @@ returns c =
     let s₂ = then-back end-back space .long (endShown (r .end)) (end-fits (r .end)) in
     let s₃ = then-back rights-back space .long (r .rights) (omega (arith, start)) in
     let w₁ = put-first d _ _ (a .at) (a .at + endAt) (rw s₁) (login .put-login .ensures) in
-    let w₂ = put-next d _ _ _ _ (a .at) (a .at + endAt) (a .at + rightsAt) w₁ (omega (arith, start)) (rw s₂ (omega arith)) (end .put-end .ensures) in
-    let w₃ = put-next d _ _ _ _ (a .at) (a .at + rightsAt) (a .at + wordAt) w₂ (omega (arith, start)) (rw s₃ (omega arith)) (rights .put-rights .ensures) in
-    let w₄ = put-next d _ _ _ _ (a .at) (a .at + wordAt) _ w₃ (omega (arith, start)) refl (rw (chosen .word-of .ensures) at (word .put-word .ensures)) in
+    let written = rw (chosen .word-of .ensures) at (word .put-word .ensures) in
+    let w₂ = put-next d _ _ _ _ (a .at) _ (a .at + rightsAt) w₁ (omega (arith, start)) (rw s₂ (omega arith)) (end .put-end .ensures) in
+    let w₃ = put-next d _ _ _ _ (a .at) _ (a .at + wordAt) w₂ (omega (arith, start)) (rw s₃ (omega arith)) (rights .put-rights .ensures) in
+    let w₄ = put-next d _ _ _ _ (a .at) _ _ w₃ (omega (arith, start)) refl written in
     put-last d _ _ _ (a .at) _ w₄
     (lefts-rights ((loginColumn then space) .encode (r .login))
     ((endColumn then space) .encode (endShown (r .end))

@@ -1,16 +1,17 @@
--- The formulas by which the code finds a year and a month.
+-- The formulas by which the code finds a year and a month, and the days before them.
 use Prim.Native.Nat.{ℕ, zero, suc, _+_, _-_, _*_, _/_, _%_, _≤_, _<_}
 use native.Mathlib.Omega.{arith}
 use native.Mathlib.Numerals.{add-one}
-use mathlib.Core.Path.{_≡_, refl}
+use mathlib.Core.Path.{_≡_, refl, ap, _∙_}
 use mathlib.Core.Bool.{Bool, true, false, cond, _&&_, Bool·beq, and-eq-true-iff, false≢true}
 use lib.Dec.{eqb, ltb, leb}
-use borrow.Author.Tests.{ltb-true, leb-true, eqb-true, eqb-false}
+use borrow.Author.Tests.{ltb-true, leb-true, eqb-true, eqb-false, lt-ltb, le-ltb}
 use Rattle.lists.proofs.Tests.{cond-cases, allBelow, passes-below}
+use Rattle.calendar.specs.declared.Date.{Date}
 use Rattle.calendar.specs.Calendar.{date, isLeap, monthDays, dateOf, monthsDays, yearsDays, dayOf}
 use Rattle.calendar.specs.Code.{stretched}
-use Rattle.calendar.specs.Text.{lastDay}
-use Rattle.calendar.proofs.Dates.{date-found}
+use Rattle.calendar.specs.Text.{lastDay, isDate}
+use Rattle.calendar.proofs.Dates.{IsValid, date-found, is-valid}
 
 -- ---- years
 
@@ -31,6 +32,13 @@ same-truth false false e = refl
 pub fourth-is-leap : (k : ℕ) → k < 130 → isLeap (1970 + k) ≡ eqb ((k + 2) % 4) 0
 unfolding fourthIsLeap
 fourth-is-leap k h = same-truth _ _ (passes-below fourthIsLeap 130 all-fourth k h)
+
+short-rule : (y : ℕ) → 1970 ≤ y → y ≤ 2099 → isLeap y ≡ eqb (y % 4) 0
+short-rule y h l =
+    let k : ℕ = y - 1970 in
+    let e : 1970 + k ≡ y = omega arith in
+    let m : (k + 2) % 4 ≡ y % 4 = omega arith in
+    rw e at (fourth-is-leap k (omega arith)) ∙ ap (λ (n : ℕ). eqb n 0) m
 
 -- the days of the first k years
 abbrev pub yearStart : ℕ → ℕ
@@ -124,3 +132,66 @@ date-in-year y n d leap h e t =
     let b : j + 1 - 1 ≡ j = omega arith in
     let l : j + 1 ≤ monthDays (isLeap y) (m + 1) = rw (← e, add-one m) (omega (arith, t .day)) in
     date-found (yearsDays (y - 1970) + n) (date y (m + 1) (j + 1)) (omega arith) (rw (a, b, ← e) (omega (arith, t .number)))
+
+-- ---- and back
+
+-- the days of a year before a month, counted from 0: what February lacks of 30 days counts from March on
+abbrev daysBefore : Bool → ℕ → ℕ
+daysBefore leap m = cond (ltb m 2) (monthStart m) (cond leap (monthStart m - 1) (monthStart m - 2))
+
+isDaysBefore : Bool → ℕ → Bool
+isDaysBefore leap m = eqb (monthsDays leap m) (daysBefore leap m)
+
+all-days-before : (leap : Bool) → allBelow (isDaysBefore leap) 12 ≡ true
+unfolding allBelow isDaysBefore monthDays monthsDays
+all-days-before true = refl
+all-days-before false = refl
+
+days-before : (leap : Bool) (m : ℕ) → m < 12 → monthsDays leap m ≡ daysBefore leap m
+unfolding isDaysBefore
+days-before leap m h = eqb-true _ _ (passes-below (isDaysBefore leap) 12 (all-days-before leap) m h)
+
+pub winter-before : (leap : Bool) (m : ℕ) → m < 2 → monthsDays leap m ≡ monthStart m
+winter-before leap m h = days-before leap m (omega arith) ∙ rw (lt-ltb m 2 h)
+
+pub leap-before : (m : ℕ) → 2 ≤ m → m < 12 → monthsDays true m ≡ monthStart m - 1
+leap-before m h l = days-before true m l ∙ rw (le-ltb m 2 h)
+
+pub common-before : (m : ℕ) → 2 ≤ m → m < 12 → monthsDays false m ≡ monthStart m - 2
+common-before m h l = days-before false m l ∙ rw (le-ltb m 2 h)
+
+months-at-most : (leap : Bool) (m : ℕ) → m < 12 → monthsDays leap m ≤ 366
+months-at-most leap m h =
+    rw (days-before leap m h) (cond-cases (λ (n : ℕ). n ≤ 366) (ltb m 2) (λ _. omega arith)
+    (λ _. cond-cases (λ (n : ℕ). n ≤ 366) leap (λ _. omega arith) (λ _. omega arith)))
+
+-- the number of the day of a date, by the short rule
+pub record Counted (d : Date) : Type 0 where
+  pub valid : IsValid d
+  pub until : d .year ≤ 2099
+  pub before : monthsDays (eqb (d .year % 4) 0) (d .month - 1) ≤ 366
+  pub number : dayOf d ≡ yearStart (d .year - 1970) + monthsDays (eqb (d .year % 4) 0) (d .month - 1) + (d .day - 1)
+
+pub counted : (d : Date) → isDate d ≡ true → Counted d
+unfolding dayOf
+counted d e =
+    let t = is-valid d e in
+    let m : d .month - 1 < 12 = omega arith in
+    record {
+      valid = t .0;
+      until = t .1;
+      before = months-at-most _ _ m;
+      number = rw (year-start (d .year - 1970) (omega arith), short-rule (d .year) (t .0 .since) (t .1));
+    }
+
+-- the test of a date, by the short rule
+pub is-date : (y m j : ℕ) → let last = monthDays (eqb (y % 4) 0) m in
+    ((leb 1970 y && leb y 2099) && ((leb 1 m && leb m 12) && (leb 1 j && leb j last))) ≡ isDate (date y m j)
+unfolding isDate
+is-date y m j = at (leb 1970 y) (leb y 2099) refl refl
+  where
+    at : (a b : Bool) → leb 1970 y ≡ a → leb y 2099 ≡ b → let last = monthDays (eqb (y % 4) 0) m in
+        ((leb 1970 y && leb y 2099) && ((leb 1 m && leb m 12) && (leb 1 j && leb j last))) ≡ isDate (date y m j)
+    at true true h l = rw (short-rule y (leb-true 1970 y h) (leb-true y 2099 l))
+    at true false h l = rw (h, l)
+    at false b h l = rw h

@@ -3,3 +3,4 @@ pub mod Rising
 pub mod Dates
 pub mod Formulas
 pub mod Texts
+pub mod Characters

@@ -1,7 +1,7 @@
 -- The text of a day is read as that day, and what is read is the text of its day.
 use Prim.Native.Nat.{ℕ}
 use native.Mathlib.Omega.{arith}
-use mathlib.Core.Path.{_≡_, refl, ap, _∙_}
+use mathlib.Core.Path.{_≡_, refl, sym, ap, _∙_}
 use mathlib.Core.Bool.{true, cond, _&&_, and-eq-true-iff}
 use mathlib.Core.List.{List}
 use mathlib.Core.Option.{Option, none, some}
@@ -54,3 +54,6 @@ text-written-back text n e =
     let d = dateIn text in
     cond-cases (λ (o : Option ℕ). o ≡ some n → HasDay text n) (isDate d && isSameBytes (dateText d) text)
     (λ t p. written-as text n d t (cc)) (λ t p. clash (cc)) e
+
+pub day-length : (text : List ℕ) (n : ℕ) → dayIn text ≡ some n → length text ≡ 10
+day-length text n e = ap length (sym (text-written-back text n e .written)) ∙ length-dayText n

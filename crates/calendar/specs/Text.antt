@@ -8,6 +8,8 @@ use lib.ListN.{take, drop}
 use Rattle.binary.specs.Number.{isSameBytes}
 use Rattle.decimal.specs.Decimal.{padded, numberIn}
 use Rattle.calendar.specs.declared.Date.{Date}
+use Rattle.calendar.specs.declared.DayRead.{DayRead}
+use Rattle.calendar.specs.declared.DayRead.the-variants.{Read, Malformed}
 use Rattle.calendar.specs.Calendar.{date, isLeap, monthDays, dateOf, dayOf}
 
 -- "47481 (2099-12-31)"
@@ -36,3 +38,8 @@ dateIn text = date (numberIn (take 4 text)) (numberIn (take 2 (drop 5 text))) (n
 -- the day of ten characters, or none where they are not the text of a date
 unfoldable pub dayIn : List ℕ → Option ℕ
 dayIn text = let d = dateIn text in cond (isDate d && isSameBytes (dateText d) text) (some (dayOf d)) none
+
+-- what the code answers
+abbrev pub dayRead : DayRead → Option ℕ
+dayRead (Read n) = some n
+dayRead Malformed = none

@@ -9,6 +9,11 @@ ghost use Rattle.calendar.specs.Code.{stretched};
 ghost use Rattle.calendar.specs.Text.{lastDay, dateText, dayText};
 use binary::put_bytes;
 
+mod reading;
+
+pub use reading::DATE_SIZE;
+pub use reading::day_in;
+
 // 2099-12-31.
 pub const LAST_DAY: u32 = 47481;
 
@@ -17,6 +22,12 @@ pub struct Date {
     pub year: u16,
     pub month: u8,
     pub day: u8,
+}
+
+// The day of a text, where it is that of a date.
+pub enum DayRead {
+    Read(u32),
+    Malformed,
 }
 
 // A day of a year, counted from 0, as if February had 30 days, so that one formula serves for all months.

@@ -1,3 +1,4 @@
 -- Laws of digits.
 pub mod Stored
 pub mod Texts
+pub mod Scanned

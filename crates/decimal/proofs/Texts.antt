@@ -66,7 +66,7 @@ read-digits (suc k) x h =
     (λ t. let r = read-digit 0 x (ltb-true x 10 t) in omega arith)
     (λ _. read-last (digits (suc k) (x / 10)) x (read-digits k (x / 10) (omega arith)))
 
-read-decimal : (w x : ℕ) → 1 ≤ w → w ≤ mostDigits → x < 10 ^ w → numberIn (decimal x) ≡ x
+pub read-decimal : (w x : ℕ) → 1 ≤ w → w ≤ mostDigits → x < 10 ^ w → numberIn (decimal x) ≡ x
 read-decimal zero x a b h = absurd (omega arith)
 read-decimal (suc k) x a b h = ap numberIn (decimal-below (suc k) x a b h) ∙ read-digits k x h
 

@@ -1,3 +1,4 @@
 -- Numbers in decimal.
 pub mod Decimal
 pub mod Claims
+pub mod Code

@@ -1,4 +1,9 @@
-// Numbers written in decimal.
+// Numbers written in decimal, and read.
+mod reading;
+
+pub use reading::Number;
+pub use reading::is_digit;
+pub use reading::number_at;
 ghost use mathlib.Core.Path.{_≡_};
 ghost use mathlib.Core.List.{_++_};
 ghost use Prim.Native.Nat.{_+_, _^_, _≤_, _<_};

@@ -1,6 +1,7 @@
 -- Laws of the folds and tables, and what `search` is handed.
 pub mod Cases
 pub mod Tests
+pub mod Options
 pub mod Every
 pub mod Firsts
 pub mod Members

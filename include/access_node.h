@@ -22,17 +22,18 @@
  *
  * Return value. The low 8 bits are the answer (ACCESS_NODE_ANSWER): ACCESS_NODE_OK,
  * ACCESS_NODE_VOTED or the number of the refusal. The bits above are a count (ACCESS_NODE_COUNT):
- * the lines of a page that is given; 0 for every refusal and for the other calls. The rules are
- * tried in this order: 1, 2, 22 (a page: 23), then the others from the lowest number up.
+ * the lines of a page, the announcements of a roster or the length of a roster's line that is
+ * given; 0 for every refusal and for the other calls. The rules are tried in this order: 1, 2, 22
+ * (a page: 23), then the others from the lowest number up.
  *
- * Output. A call writes a whole image, checkpoint or page to the front of its output slice, or leaves
- * the slice as it was. A longer slice keeps its tail.
+ * Output. A call writes all that it gives to the front of its output slice, or leaves the slice as
+ * it was. A longer slice keeps its tail.
  *
  * Threads. The library has no variables of its own: calls on different slices may run at once.
  *
  * Work. Each call returns for every input. No loop runs over more than a checkpoint's 1,108 bytes,
- * 64 rows, 32 seats, 16 proposals or the 47 characters of a page's 64 lines; docs/PERFORMANCE.md has
- * the instructions of each call.
+ * 64 rows, 32 seats, 16 proposals, the 47 characters of a page's 64 lines or the 34 of a roster's;
+ * docs/PERFORMANCE.md has the instructions of each call.
  *
  * Stack. ACCESS_NODE_STACK_* is the most that a call was measured to use (tests/stack_use.c), in
  * bytes, rounded up with at least 512 to spare.
@@ -53,8 +54,9 @@ extern "C" {
 #endif
 
 /* Which calls, records and rules this header is for. Images of two editions are not to be mixed, but
- * for those of 1 and 2: edition 2 adds node_page and changes nothing else. */
-#define ACCESS_NODE_EDITION 2
+ * for those of 1 to 3: edition 2 adds node_page, edition 3 node_roster_import and
+ * node_roster_export, and nothing else changes. */
+#define ACCESS_NODE_EDITION 3
 
 /* Sizes of whole records. A sheet has 0 to ACCESS_NODE_MOST_ROWS rows. */
 #define ACCESS_NODE_CHECKPOINT_SIZE 1108
@@ -69,6 +71,11 @@ extern "C" {
 #define ACCESS_NODE_LINE_SIZE 47
 #define ACCESS_NODE_MOST_LOGINS 64
 #define ACCESS_NODE_PAGE_SIZE(lines) (ACCESS_NODE_LINE_SIZE * (lines))
+
+/* A roster has a line for each grant: at most 34 characters where its fields are quoted, and
+ * ACCESS_NODE_ROSTER_LINE_SIZE as node_roster_export writes it. */
+#define ACCESS_NODE_ROSTER_LINE_SIZE 28
+#define ACCESS_NODE_ROSTER_MOST_LINES 64
 
 /* The kinds of records. Those of announcements are the nine actions. */
 #define ACCESS_NODE_KIND_PROPOSE 1
@@ -86,7 +93,7 @@ extern "C" {
 #define ACCESS_NODE_KIND_QUERY 20
 
 /* Answers. */
-#define ACCESS_NODE_OK 0             /* started, performed, open; the checkpoint or page is given */
+#define ACCESS_NODE_OK 0             /* started, performed, open; what was asked for is given */
 #define ACCESS_NODE_MALFORMED 1      /* an input slice other than the sheet is malformed */
 #define ACCESS_NODE_BAD_SHEET 2      /* the sheet is malformed */
 #define ACCESS_NODE_HALTED 3         /* the node's own seat is retired */
@@ -110,6 +117,8 @@ extern "C" {
 #define ACCESS_NODE_RIGHT_NOT_HELD 21 /* the login has no such right; one miss is added */
 #define ACCESS_NODE_NO_ROOM 22       /* the output slice is too short for the image or checkpoint */
 #define ACCESS_NODE_NO_PAGE_ROOM 23  /* the output slice is too short for the page */
+#define ACCESS_NODE_BAD_ROSTER 24    /* the roster is malformed or too long, or no such grant */
+#define ACCESS_NODE_NO_ROSTER_ROOM 25 /* the output slice is too short for the grants or the line */
 #define ACCESS_NODE_VOTED 128        /* the node voted for the announcement */
 
 /* The two parts of what a call returned. */
@@ -158,6 +167,25 @@ uint32_t node_checkpoint(const uint8_t *image, size_t image_length,
 #define ACCESS_NODE_STACK_PAGE 4096
 uint32_t node_page(const uint8_t *image, size_t image_length, uint32_t day,
                    uint8_t *page_out, size_t page_out_length);
+
+/* The two calls below ask nothing of a node: an office can make them as well.
+ *
+ * Turns a roster (RFC 4180, no header; each line a login, its end date and its rights:
+ * docs/FORMATS.md) into grant announcements of ACCESS_NODE_ANNOUNCEMENT_SIZE bytes each, one for
+ * each line in their order, for a day and for cycles that rise by one from a given one. A slice of
+ * ACCESS_NODE_ROSTER_MOST_LINES times that size holds all that a roster can give.
+ * Refusals: 24, 25. Writes the announcements with 0; ACCESS_NODE_COUNT is their number. */
+#define ACCESS_NODE_STACK_ROSTER_IMPORT 3072
+uint32_t node_roster_import(const uint8_t *roster, size_t roster_length,
+                            uint32_t cycle, uint32_t day,
+                            uint8_t *announcements_out, size_t announcements_out_length);
+
+/* Gives the line of a roster for a grant announcement that ends by 2099-12-31. A slice of
+ * ACCESS_NODE_ROSTER_LINE_SIZE bytes holds every line; there is no zero byte behind it.
+ * Refusals: 24, 25. Writes the line with 0; ACCESS_NODE_COUNT is its length. */
+#define ACCESS_NODE_STACK_ROSTER_EXPORT 1024
+uint32_t node_roster_export(const uint8_t *announcement, size_t announcement_length,
+                            uint8_t *line_out, size_t line_out_length);
 
 #ifdef __cplusplus
 }

@@ -9,26 +9,29 @@
 #include <ucontext.h>
 
 /* NONE makes no call: it shows what a call would find in use. */
-enum call { START, DELIVER, QUERY, CHECKPOINT, PAGE, NONE, CALLS = NONE };
+enum call { START, DELIVER, QUERY, CHECKPOINT, PAGE, IMPORT, EXPORT, NONE, CALLS = NONE };
 
 /* SPARE is what access_node.h promises to leave between the measured and the stated use. */
 enum { INPUTS = 3, LONGEST = 65537, STACK = 65536, FILL = 0xA5, SPARE = 512 };
 
-static const char *const names[CALLS] = {"node_start", "node_deliver", "node_query", "node_checkpoint", "node_page"};
-static const size_t input_counts[CALLS] = {2, 3, 2, 1, 1};
+static const char *const names[CALLS] = {"node_start", "node_deliver",       "node_query",        "node_checkpoint",
+                                         "node_page",  "node_roster_import", "node_roster_export"};
+static const size_t input_counts[CALLS] = {2, 3, 2, 1, 1, 1, 1};
 static const size_t stated[CALLS] = {
     [START] = ACCESS_NODE_STACK_START,
     [DELIVER] = ACCESS_NODE_STACK_DELIVER,
     [QUERY] = ACCESS_NODE_STACK_QUERY,
     [CHECKPOINT] = ACCESS_NODE_STACK_CHECKPOINT,
     [PAGE] = ACCESS_NODE_STACK_PAGE,
+    [IMPORT] = ACCESS_NODE_STACK_ROSTER_IMPORT,
+    [EXPORT] = ACCESS_NODE_STACK_ROSTER_EXPORT,
 };
 
 /* The call at hand; the output slice has room for every call, the page of a full list the most. */
 static enum call call;
 static uint8_t in[INPUTS][LONGEST];
 static size_t length[INPUTS];
-static uint32_t day;
+static uint32_t day, cycle;
 static uint8_t out[ACCESS_NODE_PAGE_SIZE(ACCESS_NODE_MOST_LOGINS)];
 static size_t room;
 
@@ -47,6 +50,10 @@ static void make(void) {
         node_checkpoint(in[0], length[0], out, room);
     else if (call == PAGE)
         node_page(in[0], length[0], day, out, room);
+    else if (call == IMPORT)
+        node_roster_import(in[0], length[0], cycle, day, out, room);
+    else if (call == EXPORT)
+        node_roster_export(in[0], length[0], out, room);
 }
 
 static void make_on_stack(void) {
@@ -105,7 +112,8 @@ static uint32_t number_at(const uint8_t *bytes) {
     return bytes[0] | (uint32_t)bytes[1] << 8 | (uint32_t)bytes[2] << 16 | (uint32_t)bytes[3] << 24;
 }
 
-/* The next call: its number, three lengths, then the slices; the day of a page stands as a second slice. 0 at the end of the input. */
+/* The next call: its number, three lengths, then the slices; the day of a page stands as a second slice, the day and the cycle of a roster as
+ * one too. 0 at the end of the input. */
 static int read_call(void) {
     uint8_t head[4 * (1 + INPUTS)];
     size_t numbers[1 + INPUTS], got = fread(head, 1, sizeof head, stdin);
@@ -124,6 +132,7 @@ static int read_call(void) {
     }
     call = (enum call)numbers[0];
     day = number_at(in[1]);
+    cycle = number_at(in[1] + 4);
     return 1;
 }
 
@@ -142,7 +151,7 @@ int main(void) {
     int good = 1;
     for (size_t c = 0; c < CALLS; c++)
         good &= is_stated((enum call)c);
-    printf("stack use over %zu calls: start %zu, deliver %zu, query %zu, checkpoint %zu, page %zu bytes\n", calls, deepest[START],
-           deepest[DELIVER], deepest[QUERY], deepest[CHECKPOINT], deepest[PAGE]);
+    printf("stack use over %zu calls: start %zu, deliver %zu, query %zu, checkpoint %zu, page %zu, import %zu, export %zu bytes\n", calls,
+           deepest[START], deepest[DELIVER], deepest[QUERY], deepest[CHECKPOINT], deepest[PAGE], deepest[IMPORT], deepest[EXPORT]);
     return !good;
 }

@@ -49,6 +49,20 @@ mod c {
             page_out: *mut u8,
             page_out_length: usize,
         ) -> u32;
+        pub fn node_roster_import(
+            roster: *const u8,
+            roster_length: usize,
+            cycle: u32,
+            day: u32,
+            announcements_out: *mut u8,
+            announcements_out_length: usize,
+        ) -> u32;
+        pub fn node_roster_export(
+            announcement: *const u8,
+            announcement_length: usize,
+            line_out: *mut u8,
+            line_out_length: usize,
+        ) -> u32;
     }
 }
 
@@ -70,10 +84,12 @@ mod c {
         node_query: *const u8, usize, *const u8, usize, *mut u8, usize;
         node_checkpoint: *const u8, usize, *mut u8, usize;
         node_page: *const u8, usize, u32, *mut u8, usize;
+        node_roster_import: *const u8, usize, u32, u32, *mut u8, usize;
+        node_roster_export: *const u8, usize, *mut u8, usize;
     }
 }
 
-// Why the five calls are sound: the header (access_node.h) asks for non-null pointers of the given
+// Why the seven calls are sound: the header (access_node.h) asks for non-null pointers of the given
 // lengths, also where a length is 0, and for slices that do not overlap. A pointer taken from a
 // Rust slice is never null and is good for the slice's length. `out` is borrowed exclusively, so it
 // shares no byte with an input. The calls keep no pointer, so nothing outlives the borrows.
@@ -129,6 +145,30 @@ pub fn node_page(image: &[u8], day: u32, out: &mut [u8]) -> u32 {
             image.as_ptr(),
             image.len(),
             day,
+            out.as_mut_ptr(),
+            out.len(),
+        )
+    }
+}
+
+pub fn node_roster_import(roster: &[u8], cycle: u32, day: u32, out: &mut [u8]) -> u32 {
+    unsafe {
+        c::node_roster_import(
+            roster.as_ptr(),
+            roster.len(),
+            cycle,
+            day,
+            out.as_mut_ptr(),
+            out.len(),
+        )
+    }
+}
+
+pub fn node_roster_export(announcement: &[u8], out: &mut [u8]) -> u32 {
+    unsafe {
+        c::node_roster_export(
+            announcement.as_ptr(),
+            announcement.len(),
             out.as_mut_ptr(),
             out.len(),
         )

@@ -6,12 +6,15 @@
 pub mod actions;
 pub mod announcement;
 pub mod bytes;
+pub mod calendar;
 pub mod checkpoint;
+pub mod csv;
 pub mod image;
 pub mod node;
 pub mod page;
 pub mod query;
 pub mod records;
+pub mod roster;
 pub mod rules;
 pub mod run;
 pub mod start;
@@ -27,7 +30,7 @@ pub enum Answer {
     Voted,
     Done,
     Open,
-    /// A checkpoint or a page was given.
+    /// A checkpoint, a page, the announcements of a roster or a line of one was given.
     Given,
     /// A number of the table of no.
     No(u8),

@@ -103,6 +103,42 @@ const WRONG: &[(&str, &[&str], &str)] = &[
         &["show", "--picture"],
         "--picture is not understood",
     ),
+    (
+        RECORDS,
+        &["roster"],
+        "read or write is expected behind roster",
+    ),
+    (RECORDS, &["roster", "print"], "print is not understood"),
+    (
+        RECORDS,
+        &["roster", "read", "10"],
+        "CYCLE and DAY are expected behind roster read",
+    ),
+    (
+        RECORDS,
+        &["roster", "read", "10", "101", "more"],
+        "more is not understood",
+    ),
+    (
+        RECORDS,
+        &["roster", "read", "4294967296", "101"],
+        "4294967296 is not a cycle: 0 to 4294967295 is expected",
+    ),
+    (
+        RECORDS,
+        &["roster", "read", "+1", "101"],
+        "+1 is not a cycle: 0 to 4294967295 is expected",
+    ),
+    (
+        RECORDS,
+        &["roster", "read", "10", "2026-02-29"],
+        "2026-02-29 is not a day: 0 to 4294967295, or a date from 1970-01-01 to 2099-12-31",
+    ),
+    (
+        RECORDS,
+        &["roster", "write", "file"],
+        "file is not understood",
+    ),
 ];
 
 #[test]
@@ -195,7 +231,7 @@ fn too_few_calls_have_status_3() {
 #[test]
 fn faults_are_listed() {
     let (status, text, _) = printed(run(COMPARE, &["--faults"], b""));
-    assert_eq!((status, text.lines().count()), (0, 363));
+    assert_eq!((status, text.lines().count()), (0, 553));
     assert!(text.contains("\nMargin8: m may be 8\n"));
 }
 
@@ -260,6 +296,34 @@ fn show_of_text_says_so() {
         errors.contains("looks like text: `records compose`"),
         "{errors}"
     );
+}
+
+#[test]
+fn a_roster_is_read_and_written_back() {
+    let roster = b"501,2026-12-31,00ff\r\n";
+    let read = run(RECORDS, &["roster", "read", "10", "1970-04-12"], roster);
+    assert_eq!((read.status.code(), read.stderr), (Some(0), Vec::new()));
+    let shown = "announce cycle 10 day 101 grant login 501 end 20818 rights 0 1 2 3 4 5 6 7\n";
+    assert_eq!(records(&["show"], &read.stdout).1, shown);
+    let again = run(RECORDS, &["roster", "read", "10", "101"], roster);
+    assert_eq!(again.stdout, read.stdout);
+    let written = records(&["roster", "write"], &read.stdout);
+    let expected = "501,2026-12-31,00FF\r\n".to_string();
+    assert_eq!(written, (0, expected, String::new()));
+}
+
+#[test]
+fn a_malformed_roster_ends_it_with_1() {
+    let roster = b"501,2026-12-31,0001\r\n502,2026-13-31,0001\r\n";
+    let message = "line 2, field 2 (end date): \"2026-13-31\" is not in the calendar\n";
+    let expected = (1, String::new(), message.to_string());
+    assert_eq!(records(&["roster", "read", "10", "101"], roster), expected);
+    let message = "record 1, at byte 0: `start seat 5 life 1` is no grant\n";
+    let expected = (1, String::new(), message.to_string());
+    assert_eq!(records(&["roster", "write"], START), expected);
+    let (status, _, errors) = records(&["roster", "write"], roster);
+    assert_eq!(status, 1);
+    assert!(errors.contains("looks like text: `records compose`"));
 }
 
 #[test]

@@ -3,6 +3,7 @@
 use crate::compare::call::{given, Records, VOTED};
 use crate::compare::fields::{Login, OwnFields, Proposal, Seat, StateFields, FREE, PRESENT};
 use crate::compare::make::records;
+use crate::layout::roster_line_size;
 
 pub struct Case {
     pub name: &'static str,
@@ -65,6 +66,7 @@ impl Size {
         let grant = announcement(8, records::grant(500 * self.logins, DAY + 200, 3));
         let end = announcement(9, records::arguments(&500u32.to_le_bytes()));
         let late = announcement(9, records::arguments(&1u32.to_le_bytes()));
+        let line_size = roster_line_size(&grant);
         let start = Records::Start(self.state().write(), records::start(0, LIFE));
         vec![
             self.case("start", start, 0),
@@ -78,7 +80,29 @@ impl Size {
             self.case("query: no 18", query(500, DAY + 31), 18),
             self.case("checkpoint", Records::Checkpoint, 0),
             self.case("page", Records::Page(DAY), given(self.logins as usize)),
+            self.case("import", self.import(""), given(self.logins as usize)),
+            self.case(
+                "import: quoted",
+                self.import("\""),
+                given(self.logins as usize),
+            ),
+            self.case("export", Records::Export(grant), given(line_size)),
         ]
+    }
+
+    /// A roster of a line for each login, its fields between quotes where there is one.
+    fn import(&self, quote: &str) -> Records {
+        let line = |i: u32| {
+            let fields = [(500 * i).to_string(), "2024-12-31".into(), "00ff".into()];
+            let fields = fields.map(|field| format!("{quote}{field}{quote}"));
+            fields.join(",") + "\r\n"
+        };
+        let roster: String = (1..=self.logins).map(line).collect();
+        Records::Import {
+            roster: roster.into_bytes(),
+            cycle: CYCLE,
+            day: DAY,
+        }
     }
 
     /// The image that every case begins with.

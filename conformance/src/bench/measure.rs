@@ -18,6 +18,8 @@ pub const TUNED: Calls = Calls {
     query: tuned::node_query,
     checkpoint: tuned::node_checkpoint,
     page: tuned::node_page,
+    import: tuned::node_roster_import,
+    export: tuned::node_roster_export,
 };
 
 /// An output slice that has room in every case: for the page of a full list.

@@ -1,5 +1,5 @@
-//! Document 01 and request A1 once more, written for speed alone: what the bench measures the archive against. It
-//! exists for the bench and may be dropped with it.
+//! Document 01 and requests A1 and A2 once more, written for speed alone: what the bench measures the
+//! archive against. It exists for the bench and may be dropped with it.
 //!
 //! No heap: a node is one struct on the stack, read and checked in one pass over the image. The rules
 //! and actions work on references. Where a call leaves the state as it was, the image that it writes
@@ -12,11 +12,13 @@ mod calls;
 mod image;
 mod page;
 mod records;
+mod roster;
 mod rules;
 mod state;
 
 pub use calls::{node_checkpoint, node_deliver, node_query, node_start};
 pub use page::node_page;
+pub use roster::{node_roster_export, node_roster_import};
 
 #[cfg(test)]
 mod tests;

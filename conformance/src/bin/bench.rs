@@ -21,6 +21,8 @@ deliver: remove done, deliver: grant done, deliver: end done, deliver: grant vot
 query: open, query: no 19, query: no 18
 checkpoint
 page
+import, import: quoted
+export
 
 Exit status: 0; 2 wrong use, or the archive is missing.
 ",

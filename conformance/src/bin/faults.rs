@@ -113,7 +113,7 @@ fn print_streams(node_run: &Path) -> Result<Printed, String> {
 /// What was needed to find a difference.
 fn all_stages(stages: &mut Stages, printed: &Printed) -> Option<String> {
     let mut rng = Random::new(SEED);
-    if stages.lone_requests(&mut rng, 4_000).is_err() {
+    if stages.rosters(&mut rng, 0).is_err() || stages.lone_requests(&mut rng, 4_000).is_err() {
         return Some(calls(stages));
     }
     if let Some(place) = printed.iter().position(differs) {
@@ -124,7 +124,9 @@ fn all_stages(stages: &mut Stages, printed: &Printed) -> Option<String> {
         stages.lone_requests(rng, 40_000)?;
         stages.damaged(rng, 200_000)?;
         stages.histories(rng, 250_000)?;
-        stages.lone_requests(rng, LIMIT)
+        stages.lone_requests(rng, LIMIT)?;
+        stages.damaged_rosters(rng)?;
+        stages.rosters(rng, LIMIT + LIMIT / 10)
     };
     rest(stages, &mut rng).is_err().then(|| calls(stages))
 }

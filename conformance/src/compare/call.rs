@@ -1,10 +1,10 @@
-//! Calls: their inputs, their output slices, what of it they write, and the five functions of an
+//! Calls: their inputs, their output slices, what of it they write, and the seven functions of an
 //! implementation that make them.
 
 use crate::archive;
 use crate::layout::{self, CHECKPOINT_SIZE, IMAGE_SIZE, LINE_SIZE};
 
-/// What is handed to a call at a host beside the image: records, or the day of a page.
+/// What is handed to a call beside the image: records, the day of a page, a roster with its numbers.
 #[derive(Clone, PartialEq, Debug)]
 pub enum Records {
     /// A checkpoint and a start.
@@ -14,6 +14,14 @@ pub enum Records {
     Query(Vec<u8>),
     Checkpoint,
     Page(u32),
+    /// With the cycle of the first line and the day of all announcements.
+    Import {
+        roster: Vec<u8>,
+        cycle: u32,
+        day: u32,
+    },
+    /// An announcement.
+    Export(Vec<u8>),
 }
 
 /// A call of a history: at a host, with an output slice of `out` bytes.
@@ -32,7 +40,7 @@ pub struct History {
     pub calls: Vec<Call>,
 }
 
-/// A call that stands alone: `image` is what the node held, empty for a start.
+/// A call that stands alone: `image` is what the node held, empty for calls that take none.
 #[derive(Clone, PartialEq, Debug)]
 pub struct Request {
     pub image: Vec<u8>,
@@ -40,7 +48,7 @@ pub struct Request {
     pub out: usize,
 }
 
-/// What a call answered, the count that it gave, and the image, checkpoint or page that it wrote.
+/// What a call answered, the count that it gave, and what it wrote.
 #[derive(Clone, PartialEq, Debug)]
 pub struct Outcome {
     pub number: u32,
@@ -56,7 +64,15 @@ pub struct Event {
 
 pub const VOTED: u32 = 128;
 
-pub const CALLS: [&str; 5] = ["start", "deliver", "query", "checkpoint", "page"];
+pub const CALLS: [&str; 7] = [
+    "start",
+    "deliver",
+    "query",
+    "checkpoint",
+    "page",
+    "import",
+    "export",
+];
 
 /// The answers that each call can give, in the order of `CALLS`.
 pub fn possible_answers(call: usize) -> Vec<u32> {
@@ -65,7 +81,8 @@ pub fn possible_answers(call: usize) -> Vec<u32> {
         1 => (0..=16).chain([22, VOTED]).collect(),
         2 => vec![0, 1, 3, 17, 18, 19, 20, 21, 22],
         3 => vec![0, 1, 22],
-        _ => vec![0, 1, 23],
+        4 => vec![0, 1, 23],
+        _ => vec![0, 24, 25],
     }
 }
 
@@ -79,14 +96,14 @@ pub fn count_in(returned: u32) -> u32 {
     returned >> 8
 }
 
-/// What a page call returns that gives so many lines.
-pub fn given(lines: usize) -> u32 {
-    (lines as u32) << 8
+/// What a call returns that gives so many lines, announcements or bytes.
+pub fn given(count: usize) -> u32 {
+    (count as u32) << 8
 }
 
 /// Whether a call of `CALLS` that answers `number` writes its output: "A call that starts, votes,
 /// performs, answers open or adds a miss writes a whole image", a checkpoint call its checkpoint, a
-/// page call its page.
+/// page call its page, an import its announcements, an export its line.
 pub fn writes(call: usize, number: u32) -> bool {
     let adds_miss = call == 2 && (19..=21).contains(&number);
     number == 0 || number == VOTED || adds_miss
@@ -101,6 +118,8 @@ impl Records {
             Records::Query(..) => 2,
             Records::Checkpoint => 3,
             Records::Page(_) => 4,
+            Records::Import { .. } => 5,
+            Records::Export(_) => 6,
         }
     }
 
@@ -114,17 +133,33 @@ impl Records {
             Records::Start(checkpoint, start) => vec![start, checkpoint],
             Records::Deliver(announcement, sheet) => vec![announcement, sheet],
             Records::Query(query) => vec![query],
-            Records::Checkpoint | Records::Page(_) => vec![],
+            _ => vec![],
         }
     }
 
-    /// The bytes that a whole output needs; those of a page depend on the image.
+    /// The bytes that a whole output needs; those of a page depend on the image. For input that is
+    /// refused it is the size that would be nearest.
     pub fn size(&self, image: &[u8]) -> usize {
         match self {
             Records::Checkpoint => CHECKPOINT_SIZE,
             Records::Page(_) => LINE_SIZE * layout::lines(image),
+            Records::Import { roster, .. } => layout::announcements_size(roster),
+            Records::Export(announcement) => layout::roster_line_size(announcement),
             _ => IMAGE_SIZE,
         }
+    }
+
+    /// Whether the call takes an image.
+    pub fn takes_image(&self) -> bool {
+        !matches!(
+            self,
+            Records::Start(..) | Records::Import { .. } | Records::Export(_)
+        )
+    }
+
+    /// Whether the call makes, asks or tells of a node; the calls of rosters don't.
+    pub fn is_of_node(&self) -> bool {
+        !matches!(self, Records::Import { .. } | Records::Export(_))
     }
 
     /// Whether the call leaves the node as it is: what it writes is no image.
@@ -147,7 +182,7 @@ impl Request {
 
 type Deliver = fn(&[u8], &[u8], &[u8], &mut [u8]) -> u32;
 
-/// The five calls of one implementation, as C sees them.
+/// The seven calls of one implementation, as C sees them.
 pub struct Calls {
     pub name: &'static str,
     pub start: fn(&[u8], &[u8], &mut [u8]) -> u32,
@@ -155,6 +190,8 @@ pub struct Calls {
     pub query: fn(&[u8], &[u8], &mut [u8]) -> u32,
     pub checkpoint: fn(&[u8], &mut [u8]) -> u32,
     pub page: fn(&[u8], u32, &mut [u8]) -> u32,
+    pub import: fn(&[u8], u32, u32, &mut [u8]) -> u32,
+    pub export: fn(&[u8], &mut [u8]) -> u32,
 }
 
 /// The shipped static library.
@@ -165,10 +202,12 @@ pub const ARCHIVE: Calls = Calls {
     query: archive::node_query,
     checkpoint: archive::node_checkpoint,
     page: archive::node_page,
+    import: archive::node_roster_import,
+    export: archive::node_roster_export,
 };
 
 impl Calls {
-    /// Makes the call that takes these records; a start takes no image.
+    /// Makes the call that takes these records, and the image where it takes one.
     pub fn make(&self, image: &[u8], records: &Records, out: &mut [u8]) -> u32 {
         match records {
             Records::Start(checkpoint, start) => (self.start)(checkpoint, start, out),
@@ -178,6 +217,8 @@ impl Calls {
             Records::Query(query) => (self.query)(image, query, out),
             Records::Checkpoint => (self.checkpoint)(image, out),
             Records::Page(day) => (self.page)(image, *day, out),
+            Records::Import { roster, cycle, day } => (self.import)(roster, *cycle, *day, out),
+            Records::Export(announcement) => (self.export)(announcement, out),
         }
     }
 }

@@ -6,4 +6,5 @@ pub mod one_call;
 pub mod pages;
 pub mod program;
 pub mod rerun;
+pub mod rosters;
 pub mod second;

@@ -3,12 +3,17 @@
 pub mod announcements;
 pub mod arguments;
 mod ended_logins;
+mod exports;
 mod habits;
 pub mod histories;
 pub mod lone_requests;
 pub mod malformed;
 pub mod random;
 pub mod records;
+mod roster_edges;
+mod roster_fields;
+mod roster_sweeps;
+pub mod rosters;
 pub mod sheets;
 pub mod starts_queries;
 pub mod states;

@@ -1,4 +1,5 @@
-//! The stages of a comparison: requests that stand alone, damaged input, histories with streams.
+//! The stages of a comparison: requests that stand alone, damaged input, histories with streams,
+//! rosters.
 
 use super::call::{Event, History, Request};
 use super::check::claims::{Claims, Tally};
@@ -8,9 +9,10 @@ use super::check::second::Second;
 use super::check::{one_call, program, rerun};
 use super::make::histories::HistoryMaker;
 use super::make::random::Random;
-use super::make::{lone_requests, streams, sweeps};
+use super::make::{lone_requests, rosters, streams, sweeps};
 use super::tell::coverage::Coverage;
 use super::tell::kept_case::Case;
+use super::tell::roster_marks::Mark;
 use std::path::{Path, PathBuf};
 use std::time::{Duration, Instant};
 
@@ -98,9 +100,44 @@ impl Stages {
         })
     }
 
-    /// Pages with every date.
+    /// Pages and rosters with every date.
     pub fn dates(&mut self) -> Result<(), Found> {
-        lone_requests::dates().try_for_each(|request| self.single(request))
+        let mut all = lone_requests::dates().chain(rosters::dates());
+        all.try_for_each(|request| self.single(request))
+    }
+
+    /// Imports and exports at their edges, then random ones until so many calls were made in all.
+    pub fn rosters(&mut self, rng: &mut Random, until: u64) -> Result<(), Found> {
+        for request in rosters::edges() {
+            self.single(request)?;
+        }
+        while self.coverage.calls < until {
+            self.single(rosters::any(rng))?;
+        }
+        Ok(())
+    }
+
+    /// Rosters damaged at every byte, cut at every length, with output slices of every length.
+    pub fn damaged_rosters(&mut self, rng: &mut Random) -> Result<(), Found> {
+        for base in rosters::bases(rng) {
+            let mut last = None;
+            let mut each = |request: &Request| {
+                let made = self.request(request);
+                last = made.is_err().then(|| request.clone());
+                made
+            };
+            let swept = rosters::damage(&base, &mut each)
+                .and_then(|()| rosters::cuts(&base, &mut each))
+                .and_then(|()| rosters::rooms(&base, &mut each));
+            if let (Err(what), Some(last)) = (swept, last) {
+                let case = Case::Single(last);
+                return Err(Found { case, what });
+            }
+            for mark in [Mark::SweptBytes, Mark::SweptCuts, Mark::SweptRooms] {
+                self.coverage.rosters.meet(mark);
+            }
+        }
+        Ok(())
     }
 
     /// Requests that stand alone, until so many calls were made in all.
@@ -289,6 +326,11 @@ impl Found {
             (Case::Stream(input), Some(program)) => {
                 let case = Case::Stream(program::shorten(second, program, &input));
                 Found { case, ..self }
+            }
+            (Case::Single(request), _) => {
+                let (request, what) = rerun::shorten_roster(second, request, self.what);
+                let case = Case::Single(request);
+                Found { case, what }
             }
             (case, _) => Found { case, ..self },
         }

@@ -4,4 +4,6 @@ pub mod coverage;
 pub mod kept_case;
 mod ranges;
 pub mod replay;
+pub mod roster_marks;
+mod rosters;
 mod summary;

@@ -3,9 +3,10 @@
 use super::call::{answer_in, count_in, Event, Outcome, Records, Request};
 use super::check::claims::{Claims, Tally};
 use super::check::rerun;
+use super::check::rosters::round_trip;
 use super::fields::{Login, OwnFields, StateFields};
-use super::make::records;
-use super::{random_history, Case, FAULTY, PAPER};
+use super::make::{records, rosters};
+use super::{random_history, Case, Random, FAULTY, PAPER};
 use crate::faulty;
 use crate::layout::{read, BODY, CYCLE_AND_DAY, IMAGE_SIZE, LINE_SIZE};
 
@@ -79,7 +80,12 @@ fn cases_read_back() {
         let start = single(call.records.clone(), call.out);
         let page = single(Records::Page(u32::MAX), 0);
         let stream = Case::Stream(history.first.clone());
-        for case in [Case::History(history), start, page, stream] {
+        let mut rng = Random::new(seed);
+        let rosters = [(); 9].map(|()| Case::Single(rosters::any(&mut rng)));
+        for case in [Case::History(history), start, page, stream]
+            .into_iter()
+            .chain(rosters)
+        {
             assert_eq!(Case::read(&case.write()), Ok(case));
         }
     }
@@ -215,6 +221,42 @@ fn a_word_that_no_query_agrees_with_is_seen() {
     }
 }
 
+/// What comes of an import and an export, each with the bytes that it wrote.
+fn back(written: &[u8], line: &[u8]) -> [Result<(), String>; 2] {
+    let outcome = |written: &[u8]| Outcome {
+        number: 0,
+        count: 1,
+        written: Some(written.to_vec()),
+    };
+    let import = Records::Import {
+        roster: line.to_vec(),
+        cycle: 7,
+        day: 9,
+    };
+    let export = Records::Export(written.to_vec());
+    [
+        round_trip(&import, &outcome(written)),
+        round_trip(&export, &outcome(line)),
+    ]
+}
+
+#[test]
+fn values_that_do_not_come_back_are_seen() {
+    let grant = |cycle, end| records::announcement(8, cycle, 9, records::grant(501, end, 1));
+    let line = b"501,1970-05-01,0001\r\n";
+    assert_eq!(back(&grant(7, 120), line), [Ok(()), Ok(())]);
+    let [import, export] = back(&grant(8, 121), line);
+    let what = "the lines of the announcements give other announcements";
+    assert_eq!(import, Err(what.to_string()));
+    let what = "the exported line \"501,1970-05-01,0001\\r\\n\" gives other values";
+    assert_eq!(export, Err(what.to_string()));
+    let [import, export] = back(&grant(7, 47_482), b"501,1970-05-01,0001\n");
+    let what = "an imported grant is not exported: answer 24, count 0";
+    assert_eq!(import, Err(what.to_string()));
+    let what = "an exported line is not imported: answer 24, count 0";
+    assert_eq!(export, Err(what.to_string()));
+}
+
 #[test]
 fn a_failing_history_is_shortened() {
     faulty::set(faulty::find("VoteKept"));
@@ -229,6 +271,26 @@ fn a_failing_history_is_shortened() {
     assert!(short.calls.len() <= 3, "{} calls", short.calls.len());
     faulty::set(None);
     assert!(rerun::again(&FAULTY, &short, &mut |_, _| {}).is_ok());
+}
+
+#[test]
+fn a_failing_roster_is_shortened() {
+    let line = |login: u32| format!("{login},1970-05-01,0001\r\n");
+    let roster: String = [3, 2, 1, 0, 1, 2].map(line).concat();
+    let records = Records::Import {
+        roster: roster.into_bytes(),
+        cycle: 7,
+        day: 9,
+    };
+    faulty::set(faulty::find("RosterLogin0"));
+    let request = rosters::request(records, 200);
+    let (short, what) = rerun::shorten_roster(&FAULTY, request, String::new());
+    faulty::set(None);
+    assert_eq!(what, "archive answers 24, paper 0 with count 1");
+    let Records::Import { roster, .. } = short.records else {
+        panic!("not a roster");
+    };
+    assert_eq!(roster, line(0).into_bytes());
 }
 
 #[test]

@@ -1,4 +1,4 @@
-//! The five calls as C sees them, with the slices and the day that the text gives them.
+//! The seven calls as C sees them, with the slices and the numbers that the text gives them.
 
 use super::answer::Answer;
 use crate::compare::call::{answer_in, possible_answers, writes, Calls, CALLS, VOTED};
@@ -11,11 +11,13 @@ pub enum Sort {
     Query,
     Checkpoint,
     Page,
+    Import,
+    Export,
 }
 
-use Sort::{Checkpoint, Deliver, Page, Query, Start};
+use Sort::{Checkpoint, Deliver, Export, Import, Page, Query, Start};
 
-pub const SORTS: [Sort; 5] = [Start, Deliver, Query, Checkpoint, Page];
+pub const SORTS: [Sort; 7] = [Start, Deliver, Query, Checkpoint, Page, Import, Export];
 
 impl Sort {
     pub fn name(self) -> &'static str {
@@ -24,15 +26,21 @@ impl Sort {
 
     /// How many records its request has in the text.
     pub fn records(self) -> usize {
-        [2, 2, 1, 0, 0][self as usize]
+        [2, 2, 1, 0, 0, 1, 1][self as usize]
     }
 
     /// The number for an output slice that is too short.
     pub fn no_room(self) -> u32 {
         match self {
             Page => 23,
+            Import | Export => 25,
             _ => 22,
         }
+    }
+
+    /// Whether an image is its first slice.
+    pub fn takes_image(self) -> bool {
+        !matches!(self, Start | Import | Export)
     }
 
     /// Whether the call writes its output where it returns this number.
@@ -40,9 +48,14 @@ impl Sort {
         writes(self as usize, answer_in(returned))
     }
 
+    /// Whether it gives a count: what it writes then stands in the text.
+    pub fn counts(self) -> bool {
+        matches!(self, Page | Import | Export)
+    }
+
     /// Whether what the call writes is an image.
     pub fn writes_image(self) -> bool {
-        !matches!(self, Checkpoint | Page)
+        matches!(self, Start | Deliver | Query)
     }
 
     /// The answers that the call can give.
@@ -51,7 +64,7 @@ impl Sort {
             Start => Answer::Started,
             Deliver => Answer::Done,
             Query => Answer::Open,
-            Checkpoint | Page => Answer::Given,
+            Checkpoint | Page | Import | Export => Answer::Given,
         };
         let answer = |number| match number {
             0 => good,
@@ -64,13 +77,23 @@ impl Sort {
             .collect()
     }
 
-    /// The number for a malformed slice: 2 for the sheet, 1 for each other.
+    /// The number for a malformed slice: 2 for the sheet, 24 in the calls of rosters, 1 for each other.
     pub fn malformed(self, slice: usize) -> u32 {
         match (self, slice) {
             (Deliver, 2) => 2,
+            (Import | Export, _) => 24,
             _ => 1,
         }
     }
+}
+
+/// The numbers that a call takes; 0 in those that take none.
+#[derive(Clone, Copy, PartialEq, Eq, Debug, Default)]
+pub struct Numbers {
+    /// The cycle of a roster's first line.
+    pub cycle: u32,
+    /// The day of a page or a roster.
+    pub day: u32,
 }
 
 /// A call with its input slices, in the order of C's parameters.
@@ -78,8 +101,7 @@ impl Sort {
 pub struct Call {
     pub sort: Sort,
     pub slices: Vec<Vec<u8>>,
-    /// The given day of a page; 0 in the others.
-    pub day: u32,
+    pub numbers: Numbers,
 }
 
 impl Call {
@@ -92,20 +114,24 @@ impl Call {
         match sort {
             // The text has the start first, as node-run reads it; C has the checkpoint first.
             Start => records.reverse(),
-            _ => records.insert(0, image?.to_vec()),
+            _ if sort.takes_image() => records.insert(0, image?.to_vec()),
+            _ => {}
         }
         Some(Call {
             sort,
             slices: records,
-            day: 0,
+            numbers: Numbers::default(),
         })
     }
 
-    /// The fewest bytes of an output slice; those of a page depend on the image.
+    /// The fewest bytes of an output slice; those of a page depend on the image, those of a roster on
+    /// its lines and those of a line on the login.
     pub fn room(&self) -> usize {
         match self.sort {
             Checkpoint => CHECKPOINT_SIZE,
             Page => LINE_SIZE * layout::lines(&self.slices[0]),
+            Import => layout::announcements_size(&self.slices[0]),
+            Export => layout::roster_line_size(&self.slices[0]),
             _ => IMAGE_SIZE,
         }
     }
@@ -113,11 +139,14 @@ impl Call {
 
 /// Makes a call on these slices, as many as it has.
 pub fn make(by: &Calls, call: &Call, slices: &[&[u8]], out: &mut [u8]) -> u32 {
+    let Numbers { cycle, day } = call.numbers;
     match call.sort {
         Start => (by.start)(slices[0], slices[1], out),
         Deliver => (by.deliver)(slices[0], slices[1], slices[2], out),
         Query => (by.query)(slices[0], slices[1], out),
         Checkpoint => (by.checkpoint)(slices[0], out),
-        Page => (by.page)(slices[0], call.day, out),
+        Page => (by.page)(slices[0], day, out),
+        Import => (by.import)(slices[0], cycle, day, out),
+        Export => (by.export)(slices[0], out),
     }
 }

@@ -10,6 +10,7 @@ use super::walk::{walk, Counts, Found};
 use crate::compare::call::{given, ARCHIVE};
 use crate::compare::program::printed;
 use crate::compare::PAPER;
+use crate::text;
 use std::io;
 use std::path::PathBuf;
 
@@ -57,11 +58,11 @@ impl Checker {
         if !sort.answers().contains(&answer) {
             return Err(format!("{} never answers {answer}", sort.name()));
         }
-        let returned = answer.number() | given(request.page.len());
+        let returned = answer.number() | given(request.count);
         let made = self.both(call, Slices { room, gap: 0 }, returned)?;
         self.reached.note(sort, answer);
-        if sort == Sort::Page {
-            request.require_page(made.written.as_deref())?;
+        if sort.counts() {
+            request.require_output(made.written.as_deref())?;
         }
         if room == call.room() {
             self.derive(request, call, returned)?;
@@ -90,7 +91,7 @@ impl Checker {
         if first {
             sweep::rooms(call, number, each)?;
         }
-        if first && number != 1 && number != 2 {
+        if first && !sweep::is_malformed(number) {
             sweep::slices(call, each)?;
         }
         if first {
@@ -179,18 +180,19 @@ impl Run {
 }
 
 impl Request {
-    /// The page that was written has the lines of the text.
-    fn require_page(&self, written: Option<&[u8]>) -> Result<(), String> {
-        let page = String::from_utf8_lossy(written.unwrap_or_default());
-        let mut lines = page.split_inclusive('\n');
-        for wanted in &self.page {
-            let line = lines.next().unwrap_or_default();
-            if line.strip_suffix('\n') != Some(wanted) {
-                let shown = line.escape_debug();
+    /// What was written is what the text has: lines or announcements, one behind the other.
+    fn require_output(&self, written: Option<&[u8]>) -> Result<(), String> {
+        let mut rest = written.unwrap_or_default();
+        for wanted in &self.output {
+            let (piece, behind) = rest.split_at(wanted.len().min(rest.len()));
+            if piece != wanted {
                 return Err(format!(
-                    "the page has the line |{shown}|, wanted |{wanted}|"
+                    "it writes {}, wanted {}",
+                    shown(piece),
+                    shown(wanted)
                 ));
             }
+            rest = behind;
         }
         Ok(())
     }
@@ -204,5 +206,13 @@ impl Request {
             By::Run { ordinal, cycle } => Some(format!("{ordinal} {} {cycle}\n", self.answer)),
             By::Call { .. } => None,
         }
+    }
+}
+
+/// An announcement in the words of `records`, a line between bars.
+fn shown(piece: &[u8]) -> String {
+    match text::show(piece) {
+        shown if !shown.malformed && !piece.is_empty() => format!("`{}`", shown.text.trim_end()),
+        _ => format!("|{}|", piece.escape_ascii()),
     }
 }

@@ -1,5 +1,5 @@
-//! One record, checkpoint or image of the text: its lines as `records compose` takes them, and the
-//! changes of its bytes below them.
+//! One record, checkpoint, image or roster of the text: its lines as `records compose` takes them, or
+//! the text of a roster, and the changes of its bytes below them.
 
 use crate::text;
 
@@ -43,6 +43,8 @@ enum Change {
 #[derive(Debug, Clone, Default)]
 pub struct Chunk {
     lines: Vec<(usize, String)>,
+    /// The bytes of a roster.
+    roster: Option<Vec<u8>>,
     changes: Vec<(usize, Change)>,
 }
 
@@ -52,6 +54,16 @@ pub const LONGEST: usize = 65537;
 impl Chunk {
     pub fn push(&mut self, line: usize, text: &str) {
         self.lines.push((line, text.to_string()));
+    }
+
+    /// A line `text`, where the chunk is a roster or is empty.
+    pub fn push_text(&mut self, line: usize, text: &str) -> Parse<bool> {
+        let fits = self.lines.is_empty() && self.changes.is_empty();
+        if fits {
+            let bytes = between_bars(line, text)?;
+            self.roster.get_or_insert_default().extend(bytes);
+        }
+        Ok(fits)
     }
 
     /// A line `at`, `size` or `each` below the chunk.
@@ -77,12 +89,19 @@ impl Chunk {
         Ok(())
     }
 
-    pub fn item(&self) -> Parse<Item> {
+    fn bytes(&self) -> Parse<Vec<u8>> {
+        if let Some(roster) = &self.roster {
+            return Ok(roster.clone());
+        }
         let lines: Vec<&str> = self.lines.iter().map(|(_, text)| text.as_str()).collect();
-        let bytes = text::compose(&lines.join("\n")).or_else(|found| {
+        text::compose(&lines.join("\n")).or_else(|found| {
             let (line, _) = self.lines[found.place.line - 1];
             error(line, found.what)
-        })?;
+        })
+    }
+
+    pub fn item(&self) -> Parse<Item> {
+        let bytes = self.bytes()?;
         let mut item = Item { bytes, each: None };
         for (line, change) in &self.changes {
             item.apply(*line, change)?;
@@ -127,6 +146,38 @@ impl Item {
 pub fn number(line: usize, word: &str) -> Parse<usize> {
     word.parse()
         .or_else(|_| error(line, format!("`{word}` is not a number")))
+}
+
+/// The bytes of a text between two bars, with \r, \n, \\ and \xNN for those that it can't have.
+pub fn between_bars(line: usize, text: &str) -> Parse<Vec<u8>> {
+    let text = text.trim().strip_prefix('|');
+    let Some(text) = text.and_then(|text| text.strip_suffix('|')) else {
+        return error(line, "a text stands between two bars");
+    };
+    let mut bytes = Vec::new();
+    let mut rest = text;
+    while let Some((plain, escape)) = rest.split_once('\\') {
+        bytes.extend(plain.bytes());
+        let (byte, size) = escaped(line, escape)?;
+        bytes.push(byte);
+        rest = &escape[size..];
+    }
+    bytes.extend(rest.bytes());
+    Ok(bytes)
+}
+
+/// The byte of what stands behind a backslash, and how many characters it has.
+fn escaped(line: usize, text: &str) -> Parse<(u8, usize)> {
+    match text.as_bytes() {
+        [b'r', ..] => Ok((b'\r', 1)),
+        [b'n', ..] => Ok((b'\n', 1)),
+        [b'\\', ..] => Ok((b'\\', 1)),
+        [b'x', ..] => {
+            let digits = text.get(1..3).unwrap_or_default();
+            Ok((hexadecimal(line, &[digits])?[0], 3))
+        }
+        _ => error(line, "\\r, \\n, \\\\ or \\xNN is expected"),
+    }
 }
 
 /// Bytes of two hexadecimal digits, at least one.

@@ -1,6 +1,6 @@
 //! What the corpus gives to others: node-run's input and output, and the calls for C.
 
-use super::call::{self, Call, Sort};
+use super::call::{self, Call, Numbers, Sort};
 use super::file::Run;
 use super::walk::{walk, Found};
 use crate::compare::PAPER;
@@ -13,9 +13,9 @@ pub fn only_run(runs: &[Run]) -> Result<&Run, Found> {
     }
 }
 
-/// Every call of the runs: the number of the call from 0 (start, deliver, query, checkpoint, page)
-/// and the lengths of its slices, three, each in 4 bytes; then the slices. The day of a page stands
-/// as a second slice of 4 bytes.
+/// Every call of the runs: the number of the call from 0 (in the order of `SORTS`) and the lengths of
+/// its slices, three, each in 4 bytes; then the slices. The day of a page stands as a second slice of
+/// 4 bytes, the day and the cycle of a roster as one of 8.
 pub fn calls(runs: &[Run]) -> Result<Vec<u8>, Found> {
     let mut out = Vec::new();
     for run in runs {
@@ -29,8 +29,11 @@ pub fn calls(runs: &[Run]) -> Result<Vec<u8>, Found> {
 
 fn push(out: &mut Vec<u8>, call: &Call) {
     let mut slices = call.slices.clone();
-    if call.sort == Sort::Page {
-        slices.push(call.day.to_le_bytes().to_vec());
+    let Numbers { cycle, day } = call.numbers;
+    match call.sort {
+        Sort::Page => slices.push(day.to_le_bytes().to_vec()),
+        Sort::Import => slices.push([day.to_le_bytes(), cycle.to_le_bytes()].concat()),
+        _ => {}
     }
     let length = |place: usize| slices.get(place).map_or(0, Vec::len) as u32;
     for number in [call.sort as u32, length(0), length(1), length(2)] {

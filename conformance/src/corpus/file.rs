@@ -1,8 +1,9 @@
 //! A file of the corpus: its text to runs of requests.
 
 use super::answer::Answer;
-use super::call::{Sort, SORTS};
-use super::chunk::{error, number, Chunk, Item, Parse, LONGEST};
+use super::call::{Numbers, Sort, SORTS};
+use super::chunk::{between_bars, error, number, Chunk, Item, Parse, LONGEST};
+use crate::text;
 use std::collections::HashMap;
 
 /// How a request is made.
@@ -10,11 +11,10 @@ use std::collections::HashMap;
 pub enum By {
     /// As a part of node-run's input; its line has the ordinal and the cycle after it.
     Run { ordinal: usize, cycle: u32 },
-    /// By a call alone, with an output slice of some length, or of the least that it takes. The day
-    /// is that of a page.
+    /// By a call alone, with an output slice of some length, or of the least that it takes.
     Call {
         sort: Sort,
-        day: u32,
+        numbers: Numbers,
         room: Option<usize>,
     },
 }
@@ -35,8 +35,10 @@ pub struct Request {
     pub by: By,
     pub items: Vec<Item>,
     pub answer: Answer,
-    /// The lines of the page that is given, without their line feeds.
-    pub page: Vec<String>,
+    /// The count that is given: of lines, announcements or bytes; 0 for answers without one.
+    pub count: usize,
+    /// What is given with it: the lines of a page, the announcements of a roster or the line of one.
+    pub output: Vec<Vec<u8>>,
 }
 
 /// One input of node-run, and the requests by call that stand between.
@@ -57,13 +59,19 @@ struct Reader {
     chunk: Option<Chunk>,
     items: Vec<Item>,
     call: Option<By>,
-    /// How many lines of the page above have yet to come.
-    lines: usize,
+    /// How many lines of what the answer above gives have yet to come.
+    awaited: usize,
 }
 
 /// Lines that belong to the chunk above them.
 const BELOW: [&str; 5] = ["seat", "proposal", "login", "own", "voted"];
 const CHANGES: [&str; 3] = ["at", "size", "each"];
+/// What the lines of a given output begin with.
+const OUTPUTS: [(&str, Sort); 3] = [
+    ("# page:", Sort::Page),
+    ("# gives:", Sort::Import),
+    ("# line:", Sort::Export),
+];
 
 pub fn read(text: &str) -> Parse<Vec<Run>> {
     let mut reader = Reader::default();
@@ -81,8 +89,13 @@ impl Reader {
         if let Some(answer) = text.strip_prefix("# answer:") {
             return self.answer(line, answer);
         }
-        if let Some(text) = text.strip_prefix("# page:") {
-            return self.page_line(line, text);
+        for (front, sort) in OUTPUTS {
+            if let Some(text) = text.strip_prefix(front) {
+                return self.output(line, sort, text);
+            }
+        }
+        if let Some(text) = text.strip_prefix("text ") {
+            return self.text(line, text);
         }
         let text = text.split('#').next().unwrap_or_default();
         let words: Vec<&str> = text.split_whitespace().collect();
@@ -107,9 +120,13 @@ impl Reader {
             ["call", sort, words @ ..] => {
                 self.require_answered(line)?;
                 let sort = sort_named(line, sort)?;
-                let (day, words) = day_named(line, sort, words)?;
+                let (numbers, words) = numbers_named(line, sort, words)?;
                 let room = room_named(line, words)?;
-                self.call = Some(By::Call { sort, day, room });
+                self.call = Some(By::Call {
+                    sort,
+                    numbers,
+                    room,
+                });
             }
             ["let", name] => self.naming = Some(name.to_string()),
             ["same", name] => match self.names.get(*name) {
@@ -125,9 +142,23 @@ impl Reader {
         Ok(())
     }
 
+    /// A line of a roster: it goes on with the roster at hand, or begins one.
+    fn text(&mut self, line: usize, text: &str) -> Parse<()> {
+        if let Some(chunk) = &mut self.chunk {
+            if chunk.push_text(line, text)? {
+                return Ok(());
+            }
+        }
+        self.close()?;
+        let mut chunk = Chunk::default();
+        chunk.push_text(line, text)?;
+        self.chunk = Some(chunk);
+        Ok(())
+    }
+
     /// The chunk at hand gets its name, or is a part of the request.
     fn close(&mut self) -> Parse<()> {
-        self.require_page()?;
+        self.require_output()?;
         let Some(chunk) = self.chunk.take() else {
             return Ok(());
         };
@@ -161,7 +192,7 @@ impl Reader {
             Some(by) => (by, words.as_slice()),
             None => self.by_run(line, &words)?,
         };
-        let answer = self.without_lines(line, by, answer)?;
+        let (count, answer) = self.counted(line, by, answer)?;
         let Some(answer) = Answer::read(answer) else {
             return error(
                 line,
@@ -174,46 +205,52 @@ impl Reader {
             by,
             items,
             answer,
-            page: Vec::new(),
+            count,
+            output: Vec::new(),
         });
         Ok(())
     }
 
-    /// The words of an answer without the number of lines, which a given page has.
-    fn without_lines<'a, 'b>(
+    /// The count of an answer that has one, and its words without it. What is given follows.
+    fn counted<'a, 'b>(
         &mut self,
         line: usize,
         by: By,
         words: &'a [&'b str],
-    ) -> Parse<&'a [&'b str]> {
-        match (by.sort(), words) {
-            (Some(Sort::Page), ["given", lines]) => {
-                self.lines = number(line, lines)?;
-                Ok(&words[..1])
+    ) -> Parse<(usize, &'a [&'b str])> {
+        let sort = by.sort().filter(|sort| sort.counts());
+        match (sort, words) {
+            (Some(sort), ["given", count]) => {
+                let count = number(line, count)?;
+                self.awaited = if sort == Sort::Export { 1 } else { count };
+                Ok((count, &words[..1]))
             }
-            (Some(Sort::Page), ["given"]) => error(line, "given and a number of lines is expected"),
-            _ => Ok(words),
+            (Some(_), ["given"]) => error(line, "given and a number is expected"),
+            _ => Ok((0, words)),
         }
     }
 
-    /// A line of the page that the answer above gives.
-    fn page_line(&mut self, line: usize, text: &str) -> Parse<()> {
-        let text = text.trim().strip_prefix('|');
-        let Some(text) = text.and_then(|text| text.strip_suffix('|')) else {
-            return error(line, "a line of a page stands between two bars");
+    /// A line of what the answer above gives.
+    fn output(&mut self, line: usize, sort: Sort, text: &str) -> Parse<()> {
+        let bytes = match sort {
+            Sort::Import => text::compose(text).or_else(|found| error(line, found.what))?,
+            Sort::Page => between_bars(line, text).map(|line| [&line[..], b"\n"].concat())?,
+            _ => between_bars(line, text)?,
         };
         match self.run.requests.last_mut() {
-            Some(request) if self.lines > 0 => request.page.push(text.to_string()),
-            _ => return error(line, "the answer above gives no such line of a page"),
+            Some(request) if self.awaited > 0 && request.by.sort() == Some(sort) => {
+                request.output.push(bytes);
+            }
+            _ => return error(line, "the answer above gives no such line"),
         }
-        self.lines -= 1;
+        self.awaited -= 1;
         Ok(())
     }
 
-    /// The page above has all its lines.
-    fn require_page(&self) -> Parse<()> {
-        match (self.lines, self.run.requests.last()) {
-            (1.., Some(request)) => error(request.line, "lines of its page are missing"),
+    /// All that the answer above gives was there.
+    fn require_output(&self) -> Parse<()> {
+        match (self.awaited, self.run.requests.last()) {
+            (1.., Some(request)) => error(request.line, "lines of what it gives are missing"),
             _ => Ok(()),
         }
     }
@@ -239,21 +276,31 @@ fn sort_named(line: usize, name: &str) -> Parse<Sort> {
         Some(sort) => Ok(*sort),
         None => error(
             line,
-            "start, deliver, query, checkpoint or page is expected",
+            "start, deliver, query, checkpoint, page, import or export is expected",
         ),
     }
 }
 
-/// The day of a page, and the words behind it.
-fn day_named<'a, 'b>(line: usize, sort: Sort, words: &'a [&'b str]) -> Parse<(u32, &'a [&'b str])> {
-    match (sort, words) {
-        (Sort::Page, ["day", day, rest @ ..]) => match u32::try_from(number(line, day)?) {
-            Ok(day) => Ok((day, rest)),
-            Err(_) => error(line, "a day has 32 bits"),
-        },
-        (Sort::Page, _) => error(line, "day N is expected"),
-        _ => Ok((0, words)),
-    }
+/// The numbers that a call takes, and the words behind them.
+fn numbers_named<'a, 'b>(
+    line: usize,
+    sort: Sort,
+    words: &'a [&'b str],
+) -> Parse<(Numbers, &'a [&'b str])> {
+    let (cycle, day, rest) = match (sort, words) {
+        (Sort::Page, ["day", day, rest @ ..]) => ("0", *day, rest),
+        (Sort::Import, ["cycle", cycle, "day", day, rest @ ..]) => (*cycle, *day, rest),
+        (Sort::Page, _) => return error(line, "day N is expected"),
+        (Sort::Import, _) => return error(line, "cycle N day N is expected"),
+        _ => ("0", "0", words),
+    };
+    let (cycle, day) = (short(line, cycle)?, short(line, day)?);
+    Ok((Numbers { cycle, day }, rest))
+}
+
+fn short(line: usize, word: &str) -> Parse<u32> {
+    let number = u32::try_from(number(line, word)?);
+    number.or_else(|_| error(line, "a day or a cycle has 32 bits"))
 }
 
 fn room_named(line: usize, words: &[&str]) -> Parse<Option<usize>> {

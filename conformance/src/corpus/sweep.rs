@@ -1,7 +1,8 @@
 //! Calls derived from a request of the corpus, with the numbers that follow from its own by these
 //! sentences of document 01: what is malformed ("So is an input slice that isn't exactly one
 //! record, checkpoint or image"), 1 before 2 before 22, and 22 for every output slice that is too
-//! short; for a page 23 in the place of 22 (request A1).
+//! short; for a page 23 in the place of 22 (request A1); for the calls of rosters 24 in the place of 1
+//! and 25 in that of 22 (request A2).
 
 use super::call::{Call, Sort};
 use super::make::{Slices, GUARD};
@@ -39,9 +40,14 @@ pub fn around(call: &Call, number: u32, each: Each) -> Swept {
 fn number_cut(number: u32, malformed: u32) -> Option<u32> {
     match (number, malformed) {
         (1, 2) | (2, 1) => Some(1),
-        (1 | 2, _) => None,
+        (number, _) if is_malformed(number) => None,
         _ => Some(malformed),
     }
+}
+
+/// Whether a call that returns this number has a malformed slice.
+pub fn is_malformed(number: u32) -> bool {
+    matches!(number, 1 | 2 | 24)
 }
 
 /// With guard bytes behind each slice, and with nothing behind it.
@@ -60,9 +66,9 @@ fn with_rooms(call: &Call, number: u32, each: Each) -> Swept {
     Ok(())
 }
 
-/// "straight after 1 and 2"
+/// "straight after 1 and 2"; "24 comes before 25"
 fn with_room(call: &Call, number: u32, room: usize) -> u32 {
-    match room < call.room() && number != 1 && number != 2 {
+    match room < call.room() && !is_malformed(number) {
         true => call.sort.no_room(),
         false => number,
     }
@@ -79,9 +85,32 @@ pub fn rooms(call: &Call, number: u32, each: Each) -> Swept {
 /// Input slices of every shorter and some longer lengths, and other records in the place of each.
 /// Nothing of the call is malformed.
 pub fn slices(call: &Call, each: Each) -> Swept {
+    if call.sort == Sort::Import {
+        return cuts(call, each);
+    }
     for place in 0..call.slices.len() {
         lengths(call, place, each)?;
         misplaced(call, place, each)?;
+    }
+    Ok(())
+}
+
+/// A roster cut at every length, and with zeros behind it. "lines end in CR LF, the last may lack it":
+/// a cut behind a line or behind its line end leaves a roster.
+fn cuts(call: &Call, each: Each) -> Swept {
+    let whole = call.slices[0].clone();
+    for length in 0..whole.len() + 3 {
+        let mut other = call.clone();
+        other.slices[0].resize(length, 0);
+        let is_line = match whole.get(length..) {
+            Some(behind) => behind.starts_with(b"\r\n") || whole[..length].ends_with(b"\r\n"),
+            None => false,
+        };
+        let number = match is_line || length == 0 || length == whole.len() {
+            true => given(layout::roster_lines(&other.slices[0])),
+            false => 24,
+        };
+        with_rooms(&other, number, each)?;
     }
     Ok(())
 }

@@ -63,6 +63,20 @@ fn each_of_several_bytes() {
 }
 
 const GIVEN_1: &str = "call page day 1\n# answer: given 1\n# page: x";
+const GIVES_1: &str = "call import cycle 1 day 1\ntext |x|\n# answer: given 1\n# gives: announce x";
+const OTHER_1: &str = "call import cycle 1 day 1\ntext |x|\n# answer: given 1\n# page: |x|";
+
+#[test]
+fn a_text_is_one_slice() {
+    let lines = "text |501,\\x00\\\\|\ntext |# |\ntext |\\r\\n|";
+    assert_eq!(bytes(lines), b"501,\0\\# \r\n");
+    assert_eq!(bytes("text ||"), b"");
+    assert_eq!(
+        bytes("let two\ntext |a|\ntext |b|\nsame two\ntext |c|"),
+        b"abc"
+    );
+    assert_eq!(bytes("text |abc|\n at 1 bytes 78\n size 2"), b"ax");
+}
 
 #[test]
 fn messages_have_their_line() {
@@ -78,8 +92,17 @@ fn messages_have_their_line() {
         ("call query\n# answer: 1 open 1", 2, "is expected"),
         ("call frobnicate", 1, "start, deliver, query, checkpoint"),
         ("call page", 1, "day N is expected"),
-        ("call page day 4294967296", 1, "a day has 32 bits"),
-        ("call page day 1\n# answer: given", 2, "a number of lines"),
+        ("call page day 4294967296", 1, "has 32 bits"),
+        ("call import day 1", 1, "cycle N day N is expected"),
+        ("call import cycle 4294967296 day 1", 1, "has 32 bits"),
+        ("call page day 1\n# answer: given", 2, "given and a number"),
+        ("call export\n# answer: given", 2, "given and a number"),
+        ("call export\n# answer: given 9\nrun", 2, "are missing"),
+        (GIVES_1, 4, "`cycle` is expected"),
+        (OTHER_1, 4, "gives no such line"),
+        ("text x", 1, "between two bars"),
+        ("text |\\y|", 1, "\\xNN is expected"),
+        ("text |\\x4g|", 1, "two hexadecimal digits"),
         ("call page day 1\n# answer: given 1\nrun", 2, "are missing"),
         ("call page day 1\n# answer: given 1", 2, "are missing"),
         (GIVEN_1, 3, "between two bars"),
@@ -109,12 +132,12 @@ fn every_file_is_read() {
     for name in names() {
         assert!(read(&text(&name)).is_ok(), "{name}");
     }
-    assert_eq!(names().len(), 23 + 7 + 6 + 4);
+    assert_eq!(names().len(), 25 + 8 + 6 + 4);
 }
 
 #[test]
 fn each_rule_has_a_file_that_reaches_it() {
-    for rule in 1..=23 {
+    for rule in 1..=25 {
         let runs = read(&text(&format!("rule-{rule:02}.txt"))).unwrap();
         let mut requests = runs.iter().flat_map(|run| &run.requests);
         let met = requests.any(|request| request.answer == Answer::No(rule));
@@ -220,6 +243,45 @@ fn nothing_follows_the_end_of_a_run() {
     assert!(found(text).1.contains("it ends the run"));
 }
 
+const ROSTER: &str = "call import cycle 10 day 101\ntext |501,1970-05-01,0001|\n";
+const GRANT: &str = "announce cycle 10 day 101 grant login 501 end 120 rights 0";
+const EXPORT: &str = "call export\nannounce cycle 1 day 1 grant login 501 end 120 rights 0\n";
+
+#[test]
+fn a_changed_announcement_is_found() {
+    let import = |given: &str| found(&format!("{ROSTER}# answer: given 1\n# gives: {given}\n"));
+    assert!(import(GRANT).1.contains("no node-run"));
+    for (old, new) in [
+        ("cycle 10", "cycle 11"),
+        ("day 101", "day 102"),
+        ("login 501", "login 502"),
+        ("end 120", "end 121"),
+        ("rights 0", "rights 1"),
+    ] {
+        let other = GRANT.replace(old, new);
+        let what = format!("it writes `{GRANT}`, wanted `{other}`");
+        assert_eq!(import(&other), (3, what));
+    }
+    let what = "archive returns 256, wanted 24".to_string();
+    assert_eq!(found(&format!("{ROSTER}# answer: no 24\n")), (3, what));
+}
+
+#[test]
+fn a_changed_line_of_a_roster_is_found() {
+    let export = |line: &str| {
+        let size = line.replace("\\r\\n", "--").len();
+        found(&format!(
+            "{EXPORT}# answer: given {size}\n# line: |{line}|\n"
+        ))
+    };
+    let line = "501,1970-05-01,0001\\r\\n";
+    assert!(export(line).1.contains("no node-run"));
+    let what = format!("it writes |{line}|, wanted |501,1970-05-02,0001\\r\\n|");
+    assert_eq!(export("501,1970-05-02,0001\\r\\n"), (3, what));
+    let what = "archive returns 5376, wanted 4864".to_string();
+    assert_eq!(export("501,1970-05-01,0001"), (3, what));
+}
+
 /// The calls of a text: a head of 16 bytes, then the slices.
 #[test]
 fn calls_for_c() {
@@ -244,4 +306,25 @@ fn a_page_for_c() {
         [4, 0, 0, 0, 115, 4, 0, 0, 4, 0, 0, 0, 0, 0, 0, 0]
     );
     assert_eq!(page[16 + 1139..], [120, 0, 0, 0]);
+}
+
+/// The day and the cycle of a roster stand behind it.
+#[test]
+fn a_roster_for_c() {
+    let runs = read(&format!(
+        "{ROSTER}# answer: no 24\n{EXPORT}# answer: no 24\n"
+    ))
+    .unwrap();
+    let calls = export::calls(&runs).unwrap();
+    assert_eq!(
+        calls[..16],
+        [5, 0, 0, 0, 19, 0, 0, 0, 8, 0, 0, 0, 0, 0, 0, 0]
+    );
+    assert_eq!(calls[35..43], [101, 0, 0, 0, 10, 0, 0, 0]);
+    let export = &calls[43..];
+    assert_eq!(
+        export[..16],
+        [6, 0, 0, 0, 24, 0, 0, 0, 0, 0, 0, 0, 0, 0, 0, 0]
+    );
+    assert_eq!(export.len(), 16 + 24);
 }

@@ -36,10 +36,14 @@ pub fn walk(run: &Run, each: Each) -> Result<Counts, Found> {
         let at = |what: String| (request.line, what);
         counts.requests += 1;
         match request.by {
-            By::Call { sort, day, room } => {
+            By::Call {
+                sort,
+                numbers,
+                room,
+            } => {
                 counts.by_call += 1;
                 for call in by_call(request, sort, node.as_deref()).map_err(at)? {
-                    let call = Call { day, ..call };
+                    let call = Call { numbers, ..call };
                     each(request, &call, room.unwrap_or(call.room())).map_err(at)?;
                 }
             }

@@ -1,10 +1,11 @@
 //! What a call is to write, as far as the papers give it by itself: all of it but the tables of the
-//! state after a performed action and the lines of a page. These are compared between the
-//! implementations, and a page with the text.
+//! state after a performed action, the lines of a page, the values of a roster's lines and a date.
+//! These are compared between the implementations, and what has no image with the text.
 
-use super::call::{Call, Sort};
+use super::call::{Call, Numbers, Sort};
 use crate::compare::call::VOTED;
-use crate::layout::{CHECKPOINT_SIZE, IMAGE_SIZE, MISSES_AT, VOTE, VOTED_AT};
+use crate::layout::{self, ANNOUNCEMENT_SIZE, ARGUMENTS, CHECKPOINT_SIZE, IMAGE_SIZE, LOGIN};
+use crate::layout::{MISSES_AT, VOTE, VOTED_AT};
 
 const OWN_AT: usize = CHECKPOINT_SIZE;
 
@@ -15,6 +16,8 @@ pub fn check(call: &Call, number: u32, written: &[u8]) -> Result<(), String> {
         Sort::Deliver => &[IMAGE_SIZE, 24],
         Sort::Query => &[IMAGE_SIZE, 13],
         Sort::Checkpoint | Sort::Page => &[IMAGE_SIZE],
+        Sort::Import => &[],
+        Sort::Export => &[ANNOUNCEMENT_SIZE],
     };
     if !sizes.starts_with(whole) {
         return Err(format!("takes slices of {sizes:?} bytes"));
@@ -30,6 +33,8 @@ fn expected(call: &Call, number: u32, written: &[u8]) -> Vec<u8> {
     match (call.sort, number) {
         (Sort::Checkpoint, _) => out.truncate(CHECKPOINT_SIZE),
         (Sort::Page, _) => out = written.to_vec(),
+        (Sort::Import, _) => out = imported(call.numbers, written),
+        (Sort::Export, _) => out = exported(&call.slices[0], written),
         // "Misses 0, no vote." The start record has seat and life behind its four bytes.
         (Sort::Start, _) => {
             out.extend(&call.slices[1][4..]);
@@ -54,4 +59,24 @@ fn performed(image: &mut [u8], announcement: &[u8], written: &[u8]) {
     image[4..8].copy_from_slice(&cycle.wrapping_add(1).to_le_bytes());
     image[8..12].copy_from_slice(&announcement[8..12]);
     image[VOTED_AT..].fill(0);
+}
+
+/// "grant announcements .. for a given day and cycles rising by one from a given one" (request A2)
+fn imported(numbers: Numbers, written: &[u8]) -> Vec<u8> {
+    let Numbers { cycle, day } = numbers;
+    let announcements = written.chunks(ANNOUNCEMENT_SIZE).zip(cycle..);
+    let announcement = |(written, cycle): (&[u8], u32)| {
+        let head = [[22, 0, 8, 0], cycle.to_le_bytes(), day.to_le_bytes()].concat();
+        let values = &written[ARGUMENTS..ARGUMENTS + layout::size(&LOGIN)];
+        [head.as_slice(), values, &[0, 0]].concat()
+    };
+    announcements.flat_map(announcement).collect()
+}
+
+/// "login without leading zeros, capital hexadecimal, ended by CR LF" (request A2)
+fn exported(announcement: &[u8], written: &[u8]) -> Vec<u8> {
+    let [login, _, rights] = layout::read(&LOGIN, announcement, ARGUMENTS);
+    let text = String::from_utf8_lossy(written);
+    let date = text.split(',').nth(1).unwrap_or_default();
+    format!("{login},{date},{rights:04X}\r\n").into_bytes()
 }

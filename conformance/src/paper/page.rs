@@ -1,5 +1,6 @@
 //! Request A1: the login list "as a page". A passage in quotation marks is the request's own.
 
+use super::calendar;
 use super::image::{code, put};
 use super::node::Node;
 use super::records::Query;
@@ -42,53 +43,7 @@ fn date(end: Day) -> String {
     if end > Day::new(47_481) {
         return "-".repeat(10);
     }
-    let (year, rest) = year(end);
-    let (month, rest) = month(year, rest);
-    let day = rest + 1;
-    format!("{year:04}-{month:02}-{day:02}")
-}
-
-/// The year of a day, counted from 1970-01-01, and how many days of the year come before it.
-fn year(day: Day) -> (i64, i64) {
-    let mut rest = day.since(Day::new(0));
-    let mut year = 1970;
-    while rest >= days_of_year(year) {
-        rest -= days_of_year(year);
-        year += 1;
-    }
-    (year, rest)
-}
-
-/// The month in which so many days of a year are over, and how many of them are the month's own.
-fn month(year: i64, mut rest: i64) -> (i64, i64) {
-    let mut month = 1;
-    while rest >= days_of_month(year, month) {
-        rest -= days_of_month(year, month);
-        month += 1;
-    }
-    (month, rest)
-}
-
-/// The rule of the Gregorian calendar: each fourth year, of the full centuries each fourth.
-fn is_leap(year: i64) -> bool {
-    year % 4 == 0 && (year % 100 != 0 || year % 400 == 0)
-}
-
-fn days_of_year(year: i64) -> i64 {
-    if is_leap(year) {
-        366
-    } else {
-        365
-    }
-}
-
-fn days_of_month(year: i64, month: i64) -> i64 {
-    match month {
-        4 | 6 | 9 | 11 => 30,
-        2 if is_leap(year) => 29,
-        2 => 28,
-        _ => 31,
-    }
+    calendar::text(end)
 }
 
 /// "16 places for rights (letter A to P where bit 0 to 15 is held, else a hyphen)"

@@ -4,6 +4,7 @@ mod demo;
 mod image;
 mod malformed;
 mod messages;
+mod rosters;
 mod round_trip;
 
 use super::{compose, show};

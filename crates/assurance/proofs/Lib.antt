@@ -1,5 +1,6 @@
 -- The proofs of what an owner can rely on.
 pub mod Length
+pub mod Rosters
 pub mod Refusals
 pub mod More
 pub mod Interference

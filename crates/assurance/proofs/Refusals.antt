@@ -12,6 +12,8 @@ use borrow.Author.Tests.{eqb-true, eq-eqb, ne-eqb}
 use Rattle.lists.proofs.Tests.{clash, cond-cases}
 use Rattle.binary.specs.Number.{overwrite}
 use Rattle.state.specs.declared.Day.{Day}
+use Rattle.state.specs.Time.{cycle, day}
+use Rattle.roster.proofs.Outcomes.{import-answers, export-answers}
 use Rattle.page.specs.Page.{lineCount, pageText}
 use Rattle.node.specs.declared.Node.{Node}
 use Rattle.node.specs.declared.StartReply.{StartReply}
@@ -32,6 +34,7 @@ use Rattle.node.proofs.Numbers.{start-numbers, deliver-numbers, query-numbers}
 use Rattle.image.specs.Layout.{imageSize}
 use Rattle.image.specs.Image.{imageBytes, isImage, readImage}
 use Rattle.node_c.specs.Calls.{HandedBack, started, delivered, asked, Returned, return, onImage, nodeStart, nodeDeliver, nodeQuery, nodeCheckpoint}
+use Rattle.node_c.specs.Calls.{nodeRosterImport, nodeRosterExport}
 use Rattle.node_c.specs.Claims.{Writes, Returning, no-room, writes, leaves, PageReturning, malformed, too-short, given}
 use Rattle.node_c.proofs.Calls.{page-returns, calls-return, writes-to, leaves-to, image-ok}
 use Rattle.agreement.specs.History.{byValue, throughC, start, deliver, query, checkpoint, Cluster, Outcome, onNode, keepImage, onHeldImage}
@@ -40,6 +43,7 @@ use Rattle.agreement.proofs.Calls.{front}
 use Rattle.assurance.specs.Refusals.{Refusal, AddsMiss, Unchanged, RefusalsChangeNothing, oneMissMore, MissedByValue, MissedThroughC}
 use Rattle.assurance.specs.Refusals.{MissesAddOne, KeepsSlice, SlicesKept}
 use Rattle.assurance.proofs.Length.{missed-size}
+use Rattle.assurance.proofs.Rosters.{import-answered, export-answered, refusal-kept, return-kept}
 
 -- ---- what the calls by value hand back
 
@@ -176,7 +180,7 @@ image-deliver-adds-none image ab sb out m =
     deliver-adds-none n ab sb _ (deliver-comes-to n ab sb) (image-miss (delivered ab sb) image out m .returned .adds)
 
 pub slices-kept : SlicesKept
-unfolding nodeStart nodeDeliver nodeQuery
+unfolding nodeStart nodeDeliver nodeQuery nodeRosterImport nodeRosterExport
 slices-kept = record {
   start = λ cb sb out h. returned-kept _ out _ (calls-return (started cb sb) out) h (image-start-adds-none cb sb out);
   deliver = λ image ab sb out h. image-kept (delivered ab sb) image out h (image-deliver-adds-none image ab sb out);
@@ -186,6 +190,10 @@ slices-kept = record {
   checkpoint-by-value = λ n out k e. checkpoint-kept n out (λ g. let z : _≡_ {A = ℕ} 0 1 = cc in omega arith);
   page = λ image d out h. image-page-kept image d out _ (page-returns image d out) h;
   page-by-value = page-kept;
+  roster-import = λ roster c d out h. return-kept out _ (import-answered _ _ _ out _ (import-answers roster (cycle c) (day d) out)) h;
+  import-by-value = λ text c d out k e. refusal-kept out _ (import-answered _ _ _ out _ (import-answers text c d out)) k e;
+  roster-export = λ announcement out h. return-kept out _ (export-answered _ out _ (export-answers announcement out)) h;
+  export-by-value = λ announcement out k e. refusal-kept out _ (export-answered _ out _ (export-answers announcement out)) k e;
 }
 
 -- ---- what hosts hold

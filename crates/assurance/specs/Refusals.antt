@@ -7,7 +7,10 @@ use mathlib.Core.List.{List}
 use mathlib.Core.Option.{some}
 use Prim.Native.Nat.{ℕ, _+_, _%_, _≤_}
 use Rattle.binary.specs.Number.{overwrite}
+use Rattle.state.specs.declared.Cycle.{Cycle}
 use Rattle.state.specs.declared.Day.{Day}
+use Rattle.roster.specs.declared.RosterAnswer.the-variants as Roster
+use Rattle.roster.specs.Calls.{importOf, exportOf}
 use Rattle.node.specs.declared.Node.{Node}
 use Rattle.node.specs.declared.CheckpointAnswer.the-variants.{Refused}
 use Rattle.node.specs.declared.PageAnswer.the-variants as Page
@@ -15,7 +18,7 @@ use Rattle.node.specs.Checkpoint.{checkpointOf, checkpointSlice}
 use Rattle.node.specs.Page.{pageOf, pageSlice}
 use Rattle.node.specs.Query.{withMissCount}
 use Rattle.image.specs.Image.{imageBytes, isImage, readImage}
-use Rattle.node_c.specs.Calls.{Returned, nodeStart, nodeDeliver, nodeQuery, nodeCheckpoint, nodePage}
+use Rattle.node_c.specs.Calls.{Returned, nodeStart, nodeDeliver, nodeQuery, nodeCheckpoint, nodePage, nodeRosterImport, nodeRosterExport}
 use Rattle.agreement.specs.History.{byValue, throughC, Call, start, deliver, query, checkpoint, Cluster, run}
 
 -- k is the number of a refusal: 0 is started, done, open or given, and 128 is voted
@@ -91,3 +94,12 @@ pub record SlicesKept : Type 0 where
   -- what a page returns has its answer in the low 8 bits
   pub page : (image : List ℕ) (d : ℕ) (out : List ℕ) → nodePage image d out .number % 256 ≢ 0 → nodePage image d out .slice ≡ out
   pub page-by-value : (n : Node) (given : Day) (out : List ℕ) (k : ℕ) → pageOf n out .answer ≡ Page.Refused k → pageSlice n given out ≡ out
+  -- and so has what a roster's calls return
+  pub roster-import : (roster : List ℕ) (c d : ℕ) (out : List ℕ) → nodeRosterImport roster c d out .number % 256 ≢ 0
+      → nodeRosterImport roster c d out .slice ≡ out
+  pub import-by-value : (text : List ℕ) (c : Cycle) (d : Day) (out : List ℕ) (k : ℕ) → importOf text c d out .answer ≡ Roster.Refused k
+      → importOf text c d out .slice ≡ out
+  pub roster-export : (announcement out : List ℕ) → nodeRosterExport announcement out .number % 256 ≢ 0
+      → nodeRosterExport announcement out .slice ≡ out
+  pub export-by-value : (announcement out : List ℕ) (k : ℕ) → exportOf announcement out .answer ≡ Roster.Refused k
+      → exportOf announcement out .slice ≡ out

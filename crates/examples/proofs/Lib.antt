@@ -3,3 +3,4 @@ pub mod Compute
 pub mod Examples
 pub mod TableOfNo
 pub mod AccessPage
+pub mod Roster

@@ -3,3 +3,4 @@ pub mod Records
 pub mod Examples
 pub mod TableOfNo
 pub mod AccessPage
+pub mod Roster

@@ -1,4 +1,4 @@
--- The calls for C, on images and slices: what is returned, and what the whole output slice then holds.
+-- The calls for C, on images, rosters and slices: what is returned, and what the whole output slice then holds.
 use Prim.Native.Nat.{ℕ, _*_}
 use mathlib.Core.List.{List}
 use mathlib.Core.Bool.{Bool, cond, _||_}
@@ -6,7 +6,10 @@ use lib.Dec.{eqb, leb}
 use lib.ListN.{length}
 use Rattle.binary.specs.Number.{overwrite}
 use Rattle.node.specs.declared.Node.{Node}
-use Rattle.state.specs.Time.{day}
+use Rattle.state.specs.Time.{cycle, day}
+use Rattle.roster.specs.declared.RosterAnswer.{RosterAnswer}
+use Rattle.roster.specs.declared.RosterAnswer.the-variants as R
+use Rattle.roster.specs.Calls.{Outcome, importOf, exportOf}
 use Rattle.node.specs.declared.PageAnswer.{PageAnswer}
 use Rattle.node.specs.declared.PageAnswer.the-variants as P
 use Rattle.node.specs.Answers.{startNumber, deliverNumber, queryNumber, checkpointNumber}
@@ -80,3 +83,19 @@ pageReturned (P.Refused k) = k
 -- the page of the node in an image, for the given day d
 unfoldable pub nodePage : List ℕ → ℕ → List ℕ → Returned
 nodePage image d out = onNodeIn image out (λ n. record { number = pageReturned (pageOf n out .answer); slice = pageSlice n (day d) out })
+
+-- ---- rosters, which ask nothing of a node
+
+-- the answer in the low 8 bits, and above them the number of announcements or the length of the line, which is 0 for a refusal
+abbrev pub rosterReturned : RosterAnswer → ℕ
+rosterReturned (R.Given n) = 256 * n
+rosterReturned (R.Refused k) = k
+
+abbrev pub rosterReturn : Outcome → Returned
+rosterReturn x = record { number = rosterReturned (x .answer); slice = x .slice }
+
+unfoldable pub nodeRosterImport : List ℕ → ℕ → ℕ → List ℕ → Returned
+nodeRosterImport roster c d out = rosterReturn (importOf roster (cycle c) (day d) out)
+
+unfoldable pub nodeRosterExport : List ℕ → List ℕ → Returned
+nodeRosterExport announcement out = rosterReturn (exportOf announcement out)

@@ -9,7 +9,7 @@ ghost use Rattle.checkpoint.specs.Layout.{checkpointSize};
 ghost use Rattle.image.specs.Layout.{imageSize};
 ghost use Rattle.image.specs.Image.{withOwn};
 ghost use Rattle.node_c.specs.Calls.{tryRoom, writesImage, return, nodeStart, nodeDeliver, nodeQuery, nodeCheckpoint};
-ghost use Rattle.node_c.specs.Calls.{pageReturned, nodePage};
+ghost use Rattle.node_c.specs.Calls.{pageReturned, nodePage, rosterReturned, nodeRosterImport, nodeRosterExport};
 use checkpoint::layout::CHECKPOINT_SIZE;
 use image::is_image;
 use image::layout::IMAGE_SIZE;
@@ -22,6 +22,10 @@ use node::Node;
 use node::PageAnswer;
 use node::QueryAnswer;
 use node::StartAnswer;
+use roster::RosterAnswer;
+use roster::export_grant;
+use roster::import_roster;
+use state::Cycle;
 use state::Day;
 use verdicts::Own;
 
@@ -70,6 +74,16 @@ fn page_number(a: PageAnswer) -> u32
     match a {
         PageAnswer::Given(lines) => 256 * (lines as u32),
         PageAnswer::Refused(k) => k as u32,
+    }
+}
+
+// The number of announcements, or the length of the line, in the bits above the answer.
+fn roster_number(a: RosterAnswer) -> u32
+    ensures { λ r. ⌜ r ≡ rosterReturned a ⌝ }
+{
+    match a {
+        RosterAnswer::Given(n) => 256 * (n as u32),
+        RosterAnswer::Refused(k) => k as u32,
     }
 }
 
@@ -197,4 +211,22 @@ pub extern "C" fn node_page(image: &[u8], day: u32, out: &mut [u8]) -> u32
         return page_number(answer);
     }
     1
+}
+
+#[no_mangle]
+pub extern "C" fn node_roster_import(roster: &[u8], cycle: u32, day: u32, out: &mut [u8]) -> u32
+    ensures { λ r. ⌜ r ≡ nodeRosterImport (now (roster .entry)) cycle day (now (out .entry)) .number ⌝ }
+    ensures { λ r. ⌜ now (out .exit) ≡ nodeRosterImport (now (roster .entry)) cycle day (now (out .entry)) .slice ⌝ }
+{
+    let answer = import_roster(roster, Cycle(cycle), Day(day), out);
+    roster_number(answer)
+}
+
+#[no_mangle]
+pub extern "C" fn node_roster_export(announcement: &[u8], out: &mut [u8]) -> u32
+    ensures { λ r. ⌜ r ≡ nodeRosterExport (now (announcement .entry)) (now (out .entry)) .number ⌝ }
+    ensures { λ r. ⌜ now (out .exit) ≡ nodeRosterExport (now (announcement .entry)) (now (out .entry)) .slice ⌝ }
+{
+    let answer = export_grant(announcement, out);
+    roster_number(answer)
 }

@@ -4,6 +4,10 @@ use super::image;
 use super::state::{Login, State};
 
 const LINE: usize = 47;
+/// The characters of a date.
+pub const DATE: usize = 10;
+/// The last day that has one: 2099-12-31.
+pub const LAST_DATE: u32 = 47_481;
 
 /// The last word of a line, with the line feed.
 type Word = [u8; 8];
@@ -44,7 +48,7 @@ fn write_line(row: &Login, word: &Word, line: &mut [u8]) {
 
 /// Right-aligned, two digits at a time from the back; a space behind.
 #[inline]
-fn login(mut rest: u32) -> [u8; 11] {
+pub fn login(mut rest: u32) -> [u8; 11] {
     let mut text = [b' '; 11];
     let mut end = 10;
     while rest >= 10 {
@@ -62,8 +66,8 @@ fn login(mut rest: u32) -> [u8; 11] {
 /// last, so that the length of a month does not depend on the year. All are counted from 1968-03-01,
 /// 671 days before 1970; every fourth year has a leap day.
 #[inline]
-fn date(end: u32) -> [u8; 11] {
-    if end > 47_481 {
+pub fn date(end: u32) -> [u8; 11] {
+    if end > LAST_DATE {
         return *b"---------- ";
     }
     let days = end + 671;

@@ -3,7 +3,7 @@
 use crate::bench::measure::TUNED;
 use crate::compare::call::{Calls, Request};
 use crate::compare::make::random::Random;
-use crate::compare::make::{lone_requests, sweeps};
+use crate::compare::make::{lone_requests, rosters, sweeps};
 use crate::compare::PAPER;
 
 fn outcome(calls: &Calls, request: &Request) -> (u32, Vec<u8>) {
@@ -35,8 +35,24 @@ fn answers_as_the_second_implementation() {
 
 #[test]
 fn gives_every_date() {
-    for request in lone_requests::dates() {
+    for request in lone_requests::dates().chain(rosters::dates()) {
         compare(&request).unwrap();
+    }
+}
+
+#[test]
+fn reads_and_writes_rosters() {
+    let mut rng = Random::new(3);
+    for request in rosters::edges() {
+        compare(&request).unwrap();
+    }
+    for _ in 0..20_000 {
+        compare(&rosters::any(&mut rng)).unwrap();
+    }
+    for base in rosters::bases(&mut rng) {
+        rosters::damage(&base, &mut compare).unwrap();
+        rosters::cuts(&base, &mut compare).unwrap();
+        rosters::rooms(&base, &mut compare).unwrap();
     }
 }
 

@@ -1,9 +1,10 @@
-//! Runs a history again, and shortens one that fails.
+//! Runs a history again, and shortens one that fails, and a roster.
 
 use super::claims::{Claims, Tally};
 use super::hosts::Hosts;
+use super::one_call;
 use super::second::Second;
-use crate::compare::call::{Event, History};
+use crate::compare::call::{Event, History, Records, Request};
 
 /// Runs a history again; `show` sees each call's place and its event, or none where it was not made.
 /// An error has the place of the call that fails.
@@ -52,4 +53,28 @@ pub fn shorten(
             return (history, what);
         }
     }
+}
+
+/// A request that fails, and how: an import without each line that is not needed.
+pub fn shorten_roster(
+    second: &Second,
+    mut request: Request,
+    mut what: String,
+) -> (Request, String) {
+    let Records::Import { roster, .. } = request.records.clone() else {
+        return (request, what);
+    };
+    let mut lines: Vec<&[u8]> = roster.split_inclusive(|byte| *byte == b'\n').collect();
+    for place in (0..lines.len()).rev() {
+        let mut fewer = lines.clone();
+        fewer.remove(place);
+        let mut shorter = request.clone();
+        if let Records::Import { roster, .. } = &mut shorter.records {
+            *roster = fewer.concat();
+        }
+        if let Err(found) = one_call::compare_all(second, &shorter) {
+            (request, what, lines) = (shorter, found, fewer);
+        }
+    }
+    (request, what)
 }

@@ -39,6 +39,8 @@ macro_rules! second {
                     query: paper::image::node_query,
                     checkpoint: paper::image::node_checkpoint,
                     page: paper::page::node_page,
+                    import: paper::roster::node_roster_import,
+                    export: paper::roster::node_roster_export,
                 },
                 start: |checkpoint, start| match paper::start(checkpoint, start) {
                     Ok(node) => Ok(Box::new(node)),

@@ -139,6 +139,6 @@ fn damage(rng: &mut Random, records: &mut Records) {
         Records::Deliver(announcement, _) if rng.chance(50) => malformed::bytes(rng, announcement),
         Records::Deliver(_, sheet) => malformed::sheet(rng, sheet),
         Records::Query(query) => malformed::bytes(rng, query),
-        Records::Checkpoint | Records::Page(_) => {}
+        _ => {}
     }
 }

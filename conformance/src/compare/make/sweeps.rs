@@ -2,6 +2,7 @@
 //! slices of every length.
 
 use super::announcements;
+use super::exports;
 use super::malformed;
 use super::random::Random;
 use super::records;
@@ -18,7 +19,8 @@ pub type Each<'a> = &'a mut dyn FnMut(&Request) -> Result<(), String>;
 /// How many bytes longer than the longest output the longest output slice is.
 const SPARE: usize = 11;
 
-/// Requests to be damaged: a start, a query, a checkpoint, a page and a delivery of each kind.
+/// Requests to be damaged: a start, a query, a checkpoint, a page, an export and a delivery of each
+/// kind.
 pub fn bases(rng: &mut Random) -> Vec<Request> {
     let state = states::any_state(rng);
     let own = states::any_own(rng, &state);
@@ -28,12 +30,13 @@ pub fn bases(rng: &mut Random) -> Vec<Request> {
         Records::Query(starts_queries::query(rng, &state)),
         Records::Checkpoint,
         starts_queries::page(rng, &state),
+        Records::Export(exports::grant(rng)),
     ];
     bases.extend((1..10).map(|kind| delivery(rng, &state, kind)));
     let request = |records: Records| {
-        let image = match records {
-            Records::Start(..) => Vec::new(),
-            _ => own.image(&state),
+        let image = match records.takes_image() {
+            true => own.image(&state),
+            false => Vec::new(),
         };
         let out = records.size(&image).max(IMAGE_SIZE);
         Request {
@@ -79,6 +82,8 @@ fn slices(request: &Request) -> Vec<&Vec<u8>> {
         Records::Deliver(announcement, sheet) => vec![&request.image, announcement, sheet],
         Records::Query(query) => vec![&request.image, query],
         Records::Checkpoint | Records::Page(_) => vec![&request.image],
+        Records::Import { roster, .. } => vec![roster],
+        Records::Export(announcement) => vec![announcement],
     }
 }
 
@@ -86,6 +91,8 @@ fn slice_mut(request: &mut Request, place: usize) -> &mut Vec<u8> {
     match (&mut request.records, place) {
         (Records::Start(checkpoint, _), 0) => checkpoint,
         (Records::Start(_, start), _) => start,
+        (Records::Import { roster, .. }, _) => roster,
+        (Records::Export(announcement), _) => announcement,
         (_, 0) => &mut request.image,
         (Records::Deliver(announcement, _), 1) => announcement,
         (Records::Deliver(_, sheet), _) => sheet,

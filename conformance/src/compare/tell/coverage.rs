@@ -1,6 +1,8 @@
-//! What the calls met: answers by call, actions, both ends of every range, pages at their edges.
+//! What the calls met: answers by call, actions, both ends of every range, pages and rosters at their
+//! edges.
 
 use super::ranges::{Range, ANNOUNCED, DATES, HEAD, PERFORMED, RANGES};
+use super::rosters::Rosters;
 use crate::compare::call::{Outcome, Records, Request, CALLS, VOTED};
 use crate::compare::fields::{Login, OwnFields, Seat, StateFields};
 use crate::layout::{self, kind_of, BODY, CHECKPOINT, CYCLE_AND_DAY, MASKS, QUERY, ROW, ROWS};
@@ -8,7 +10,7 @@ use crate::layout::{ROW_SIZE, START};
 
 pub struct Coverage {
     pub calls: u64,
-    /// By call and answer, 0 to 23 and 128.
+    /// By call and answer, 0 to 25 and 128.
     pub answers: [[u64; 129]; CALLS.len()],
     pub performed: [u64; 10],
     pub voted: [u64; 10],
@@ -16,6 +18,7 @@ pub struct Coverage {
     pub slices: [[u64; 3]; CALLS.len()],
     pub low: Vec<u64>,
     pub high: Vec<u64>,
+    pub rosters: Rosters,
 }
 
 impl Coverage {
@@ -29,6 +32,7 @@ impl Coverage {
             slices: [[0; 3]; CALLS.len()],
             low: none.clone(),
             high: none,
+            rosters: Rosters::new(),
         }
     }
 
@@ -71,6 +75,9 @@ impl Coverage {
             Records::Checkpoint => {}
             Records::Page(day) if outcome.number == 0 => self.note_page(request, *day),
             Records::Page(_) => {}
+            Records::Import { .. } | Records::Export(_) => {
+                return self.rosters.note(request, outcome);
+            }
         }
         self.note_state(&request.image);
         self.note_own(&request.image);

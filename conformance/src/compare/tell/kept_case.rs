@@ -14,19 +14,28 @@ pub enum Case {
     Stream(Vec<u8>),
 }
 
-/// The records of a call in the words of `records`, or the day of a page.
+/// The records of a call in the words of `records`, the day of a page, or a roster.
 pub fn words_of(records: &Records) -> String {
-    if let Records::Page(day) = records {
-        return format!("page for day {day}\n");
-    }
-    let words = records
-        .in_order()
-        .into_iter()
-        .map(|slice| match slice.len() {
-            0 => "# an empty slice\n".to_string(),
-            _ => show(slice).text,
-        });
+    let slices = match records {
+        Records::Page(day) => return format!("page for day {day}\n"),
+        Records::Import { roster, cycle, day } => return roster_words(roster, *cycle, *day),
+        Records::Export(announcement) => vec![announcement],
+        _ => records.in_order(),
+    };
+    let words = slices.into_iter().map(|slice| match slice.len() {
+        0 => "# an empty slice\n".to_string(),
+        _ => show(slice).text,
+    });
     words.collect()
+}
+
+/// The lines of a roster, whatever may stand there.
+fn roster_words(roster: &[u8], cycle: u32, day: u32) -> String {
+    let lines = roster.split_inclusive(|byte| *byte == b'\n');
+    let lines: String = lines
+        .map(|line| format!("{}\n", line.escape_ascii()))
+        .collect();
+    format!("roster for day {day} and cycles from {cycle}:\n{lines}")
 }
 
 /// Lines as comments.
@@ -63,6 +72,8 @@ fn records_line(records: &Records) -> String {
         Records::Query(query) => format!("query {}", hex(query)),
         Records::Checkpoint => "checkpoint".to_string(),
         Records::Page(day) => format!("page {day}"),
+        Records::Import { roster, cycle, day } => format!("import {cycle} {day} {}", hex(roster)),
+        Records::Export(announcement) => format!("export {}", hex(announcement)),
     }
 }
 
@@ -167,6 +178,12 @@ fn read_records(words: &[&str]) -> Result<Records, String> {
         ["query", query] => Records::Query(bytes(query)?),
         ["checkpoint"] => Records::Checkpoint,
         ["page", day] => Records::Page(number(day)?),
+        ["import", cycle, day, roster] => Records::Import {
+            roster: bytes(roster)?,
+            cycle: number(cycle)?,
+            day: number(day)?,
+        },
+        ["export", announcement] => Records::Export(bytes(announcement)?),
         _ => return Err(format!("not a call: {}", words.join(" "))),
     })
 }

@@ -69,17 +69,23 @@ fn answered(outcome: &Outcome) -> String {
 /// What a call left: what the node holds after it, or the checkpoint or page that it gave.
 fn left(event: &Event) -> String {
     match event.request.records {
-        Records::Page(_) => page(&event.outcome),
+        Records::Page(_) => given(&event.request.records, &event.outcome),
         _ => held(event),
     }
 }
 
-/// The lines of a page, if one was given.
-fn page(outcome: &Outcome) -> String {
-    let written = outcome.written.as_deref().unwrap_or_default();
-    let lines = program::lines(written).into_iter();
-    let lines = lines.take(outcome.count as usize);
-    lines.map(|line| format!("\n  {line}")).collect()
+/// The lines of a page, the announcements of a roster or the line of one, if they were given.
+fn given(records: &Records, outcome: &Outcome) -> String {
+    let Some(written) = outcome.written.as_deref().filter(|_| outcome.count > 0) else {
+        return String::new();
+    };
+    let lines = match records {
+        Records::Page(_) => program::lines(written),
+        Records::Import { .. } => show(written).text.lines().map(String::from).collect(),
+        Records::Export(_) => vec![written.escape_ascii().to_string()],
+        _ => Vec::new(),
+    };
+    lines.iter().map(|line| format!("\n  {line}")).collect()
 }
 
 fn held(event: &Event) -> String {
@@ -101,9 +107,10 @@ fn replay_single(second: &Second, request: &Request) -> Result<(), String> {
     if !request.image.is_empty() {
         print!("The image:\n{}", show_image(&request.image).text);
     }
-    print!("The records:\n{}", words_of(&request.records));
+    print!("Handed to it:\n{}", words_of(&request.records));
     let outcome = one_call::compare_all(second, request)?;
-    println!("{}{}", answered(&outcome), page(&outcome));
+    let given = given(&request.records, &outcome);
+    println!("{}{given}", answered(&outcome));
     Ok(())
 }
 

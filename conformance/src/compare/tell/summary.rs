@@ -21,7 +21,8 @@ impl Coverage {
                 let high = (self.high[i] == 0).then(|| format!("{name}: {high}"));
                 low.into_iter().chain(high)
             });
-        calls.chain(kinds).chain(ends).collect()
+        let rosters = self.rosters.missing();
+        calls.chain(kinds).chain(ends).chain(rosters).collect()
     }
 
     fn missing_of_call(&self, call: usize) -> Vec<String> {
@@ -53,6 +54,7 @@ impl Coverage {
                 .collect();
             lines.push(format!("kinds {name}  {}", counts.join("  ")));
         }
+        lines.extend(self.rosters.summary());
         lines
     }
 }

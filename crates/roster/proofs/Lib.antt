@@ -3,6 +3,7 @@ pub mod Quoting
 pub mod WrittenLines
 pub mod Files
 pub mod FieldTexts
+pub mod Giving
 pub mod Imports
 pub mod Exports
 pub mod Outcomes

@@ -9,7 +9,6 @@ use lib.ListN.{length, take, length-take}
 use borrow.Author.Tests.{le-leb, lt-leb}
 use types.Run.{OneOf, miss}
 use denote.Enum.Declared.{tagOf}
-use Rattle.binary.specs.Number.{overwrite}
 use Rattle.calendar.specs.Text.{lastDay}
 use Rattle.state.specs.declared.Login.{Login}
 use Rattle.records.proofs.Action.{the-type}
@@ -18,7 +17,6 @@ use Rattle.records.specs.declared.Action.{Action}
 use Rattle.records.specs.declared.Action.the-variants.{Propose, Cancel, Presents, Certify, Minima, Remove, Rejoin, Grant, End}
 use Rattle.records.specs.declared.AnnouncementRead.the-variants.{Read, Malformed}
 use Rattle.records.specs.Announcement.{readAnnouncement}
-use Rattle.roster.specs.declared.RosterAnswer.the-variants.{Given}
 use Rattle.roster.specs.Roster.{lineOf}
 use Rattle.roster.specs.Calls.{refused, give, granted, exported, exportOf}
 
@@ -61,12 +59,3 @@ module _ (b out : List ℕ) where
       pub in-time : r .end .0 ≤ lastDay → exportOf b out ≡ give (length (lineOf r)) (lineOf r) out
       unfolding exportOf exported bind
       in-time h = rw (e, g, le-leb (r .end .0) lastDay h)
-
-module _ (n : ℕ) (bytes out : List ℕ) where
-  pub no-room : length out < length bytes → give n bytes out ≡ refused 25 out
-  unfolding give
-  no-room l = rw (lt-leb (length bytes) (length out) l)
-
-  pub line-fits : length bytes ≤ length out → give n bytes out ≡ record { answer = Given n; slice = overwrite bytes out }
-  unfolding give
-  line-fits l = rw (le-leb (length bytes) (length out) l)

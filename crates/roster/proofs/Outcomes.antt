@@ -20,27 +20,19 @@ use Rattle.records.specs.declared.Action.the-variants.{Propose, Cancel, Present
 use Rattle.records.specs.declared.AnnouncementRead.{AnnouncementRead}
 use Rattle.records.specs.declared.AnnouncementRead.the-variants.{Read, Malformed}
 use Rattle.records.specs.Announcement.{readAnnouncement}
-use Rattle.roster.specs.declared.RosterAnswer.the-variants.{Given}
 use Rattle.roster.specs.Csv.{linesIn}
 use Rattle.roster.specs.Roster.{rowsIn, rosterIn, lineOf}
-use Rattle.roster.specs.Calls.{Outcome, refused, give, grantsOf, bytesOf, imported, giveGrants, importOf}
+use Rattle.roster.specs.Calls.{Outcome, give, grantsOf, bytesOf, imported, giveGrants, importOf}
 use Rattle.roster.specs.Calls.{granted, grantedBy, exported, giveLine, exportOf}
 use Rattle.roster.specs.Claims.{EmptyFileGivesNone, ImportAnswering, malformed, out-of-cycles, ImportAnswers}
 use Rattle.roster.specs.Claims.{ExportAnswering, no-grant, ExportAnswers}
 use Rattle.roster.specs.Claims as C
 use Rattle.roster.proofs.GrantBytes.{grants-count, grants-size}
+use Rattle.roster.proofs.Giving.{give-cases}
 
 pub empty-file-gives-none : EmptyFileGivesNone
 unfolding importOf imported rosterIn linesIn rowsIn bind grantsOf bytesOf give overwrite
 empty-file-gives-none c d out = rw (le-leb 0 (cyclesSince lastCycle c) (omega arith), le-leb 0 (length out) (omega arith))
-
--- What holds where the bytes fit into the slice, and where they do not, holds of what is answered.
-give-cases : (P : Outcome → Type 0) (n : ℕ) (bytes out : List ℕ)
-    → (length bytes ≤ length out → P (record { answer = Given n; slice = overwrite bytes out })) → (length out < length bytes → P (refused 25 out))
-    → P (give n bytes out)
-unfolding give
-give-cases P n bytes out f g =
-    cond-cases P (leb (length bytes) (length out)) (λ t. f (leb-true _ _ t)) (λ t. g (leb-false _ _ t))
 
 -- ---- import
 
@@ -53,7 +45,7 @@ module _ (text : List ℕ) (c : Cycle) (d : Day) (out : List ℕ) where
   made rs e h =
       let n = grants-count c d rs in
       let s = grants-size c d rs in
-      give-cases Imports (length (grantsOf c d rs)) (bytesOf (grantsOf c d rs)) out (λ k. C.given rs e h (omega arith) (rw n))
+      give-cases (length (grantsOf c d rs)) (bytesOf (grantsOf c d rs)) out Imports (λ k. C.given rs e h (omega arith) (rw n))
       (λ k. C.too-short rs e h (omega arith) refl)
 
   read : (o : Option (List Login)) → rosterIn text ≡ o → Imports (importOf text c d out)
@@ -96,7 +88,7 @@ module _ (b out : List ℕ) where
       let late : lastDay < r .end .0 → (x : Announcement) (y : Login) → readAnnouncement b ≡ Read x → x .action ≡ Grant y → lastDay < y .end .0 =
       λ l x y p k. (let z : r ≡ y = Option·some-injective r y (sym (same-grant a r e q) ∙ same-grant x y p k) in rw (← z) l) in
       rw (same-grant a r e q) (cond-cases (λ (o : Option (List ℕ)). Exports (giveLine o out)) (leb (r .end .0) lastDay)
-      (λ t. give-cases Exports (length (lineOf r)) (lineOf r) out (λ k. C.given a r e q (leb-true _ _ t) k refl)
+      (λ t. give-cases (length (lineOf r)) (lineOf r) out Exports (λ k. C.given a r e q (leb-true _ _ t) k refl)
       (λ k. C.too-short a r e q (leb-true _ _ t) k refl))
       (λ t. no-grant (late (leb-false _ _ t)) refl))
 

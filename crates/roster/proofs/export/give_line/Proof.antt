@@ -8,7 +8,8 @@ use Rattle.binary.specs.Splice.{splice}
 use Rattle.binary.proofs.Splices.{splice-overwrite}
 use Rattle.roster.specs.declared.RosterAnswer.the-variants.{Given}
 use Rattle.roster.specs.Roster.{lineOf}
-use Rattle.roster.proofs.LineBytes.{taken-fits, no-room, line-fits}
+use Rattle.roster.proofs.LineBytes.{taken-fits}
+use Rattle.roster.proofs.Giving.{no-room, fits}
 use borrow.Author.Needs.{needs}
 use Rattle.roster.proofs.export.give_line.Statement.{statement}
 use Rattle.roster.proofs.export.give_line.Tie as tie
@@ -28,8 +29,8 @@ returns c =
     let room = put .before .before in
     let a = room .before .before .args in
     let size = put .put-line .ensures .0 in
-    let fits : length (lineOf (a .row)) ≤ length (now (a .out)) = omega (arith, size, put .put-line .ensures .1 .0, room .if1 .taken) in
-    rw (line-fits _ (lineOf (a .row)) (now (a .out)) fits) (ap Given size, put .put-line .ensures .1 .1)
+    let long : length (lineOf (a .row)) ≤ length (now (a .out)) = omega (arith, size, put .put-line .ensures .1 .0, room .if1 .taken) in
+    rw (fits _ (lineOf (a .row)) (now (a .out)) long) (ap Given size, put .put-line .ensures .1 .1)
 
 line-of-requires : tie.Need-line-of-requires
 line-of-requires c κs = search needs
@@ -49,7 +50,7 @@ part-put-bytes-start c = search needs
 part-put-bytes-end : tie.Need-part-put-bytes-end
 part-put-bytes-end c =
     let line = c .before .before .before .before in
-    let fits = taken-fits _ _ _ (line .line-of .ensures .0) (line .line-of .ensures .1 .0) in
+    let long = taken-fits _ _ _ (line .line-of .ensures .0) (line .line-of .ensures .1 .0) in
     search needs
 
 put-bytes-requires : tie.Need-put-bytes-requires
@@ -69,7 +70,7 @@ returns-3 c =
     let a = line .before .before .before .args in
     let size = line .line-of .ensures .1 .0 in
     let text = ap (λ (n : ℕ). take n (line .line-of .result .bytes)) (sub-zero (line .line-of .result .length)) ∙ line .line-of .ensures .0 in
-    rw (line-fits _ (lineOf (a .row)) (now (a .out)) (rw (← size) (room .if2 .left)))
+    rw (fits _ (lineOf (a .row)) (now (a .out)) (rw (← size) (room .if2 .left)))
     (ap Given size, put .put-bytes .ensures .1 ∙ ap (splice (now (a .out)) 0) text ∙ splice-overwrite (now (a .out)) _)
 
 pub give-line-spec : {M : Type 1} → statement M

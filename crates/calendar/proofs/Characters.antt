@@ -19,11 +19,11 @@ use Rattle.calendar.specs.Text.{dateText, isDate, dateIn, dayIn}
 -- ---- a list by its elements
 
 -- n elements of a list from index i on
-elements : ℕ → ℕ → List ℕ → List ℕ
+unfoldable pub elements : ℕ → ℕ → List ℕ → List ℕ
 elements zero i text = []
 elements (suc n) i text = byteAt i text ∷ elements n (suc i) text
 
-by-elements : (n i : ℕ) (text : List ℕ) → length text ≡ i + n → drop i text ≡ elements n i text
+pub by-elements : (n i : ℕ) (text : List ℕ) → length text ≡ i + n → drop i text ≡ elements n i text
 unfolding elements
 by-elements zero i text e = drop-of-length-le text {i = i} (omega arith)
 by-elements (suc n) i text e =

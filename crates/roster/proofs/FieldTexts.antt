@@ -2,7 +2,7 @@
 use Prim.Native.Nat.{ℕ, zero, suc, _+_, _*_, _/_, _%_, _^_, _≤_, _<_}
 use native.Mathlib.Omega.{arith}
 use native.Mathlib.Nat.{pow-suc, mul-le-mul-right}
-use mathlib.Core.Path.{_≡_, refl, ap}
+use mathlib.Core.Path.{_≡_, refl, sym, ap, _∙_}
 use mathlib.Core.Bool.{Bool, true, _&&_, and-eq-true-iff, or-true}
 use mathlib.Core.List.{List, [], _∷_, _++_}
 use mathlib.Core.Option.{some}
@@ -31,14 +31,25 @@ all-append p (x ∷ xs) b e f =
 
 -- ---- logins
 
-abbrev isLogin : List ℕ → Bool
-isLogin text = all isDigit text && ((leb 1 (length text) && leb (length text) mostLoginDigits) && isLoginNumber (numberIn text))
+-- what a login's field holds
+pub record IsLogin (c : List ℕ) (x : ℕ) : Type 0 where
+  pub digits : all isDigit c ≡ true
+  pub few : length c ≤ mostLoginDigits
+  pub value : numberIn c ≡ x
+  pub in-range : isLoginNumber x ≡ true
+
+pub login-to : (c : List ℕ) (x : ℕ) → loginIn c ≡ some x → IsLogin c x
+unfolding loginIn
+login-to c x e =
+    let t = chosen _ (numberIn c) x e in
+    let u = and-eq-true-iff (all isDigit c) _ .0 (t .0) in
+    let v = and-eq-true-iff (leb 1 (length c) && leb (length c) mostLoginDigits) (isLoginNumber (numberIn c)) .0 (u .1) in
+    let w = and-eq-true-iff (leb 1 (length c)) (leb (length c) mostLoginDigits) .0 (v .0) in
+    record { digits = u .0; few = leb-true _ _ (w .1); value = t .1; in-range = ap isLoginNumber (sym (t .1)) ∙ v .1 }
 
 pub login-range : (text : List ℕ) (x : ℕ) → loginIn text ≡ some x → (1 ≤ x) × (x < 2 ^ 32)
-unfolding loginIn
 login-range text x e =
-    let t = chosen (isLogin text) (numberIn text) x e in
-    let u = simp and-eq-true-iff at (t .0) in
+    let t = simp and-eq-true-iff at (login-to text x e .in-range) in
     omega (arith, leb-true)
 
 is-digit : (d : ℕ) → d < 10 → isDigit (48 + d) ≡ true

@@ -2,17 +2,17 @@
 use Prim.Native.Nat.{ℕ, _+_, _^_, _≤_, _<_}
 use native.Mathlib.Omega.{arith}
 use mathlib.Core.Path.{_≡_, refl, sym, ap, _∙_}
-use mathlib.Core.Bool.{Bool, true, false, _&&_, and-eq-true-iff, or-true, false≢true}
+use mathlib.Core.Bool.{Bool, true, false, and-eq-true-iff, or-true, false≢true}
 use mathlib.Core.List.{List, [], _∷_, _++_}
 use mathlib.Core.Option.{Option, some, bind, bind-eq-some-iff, Option·some-injective}
 use lib.Dec.{eqb, leb}
 use lib.ListN.{length, take, drop, take-append-drop}
 use lib.Seq.{take-append-seam, drop-append-seam}
-use borrow.Author.Tests.{leb-true, le-leb, eqb-true}
+use borrow.Author.Tests.{le-leb, eqb-true}
 use Rattle.lists.specs.Fold.{all}
 use Rattle.lists.proofs.Options.{chosen}
 use Rattle.lists.proofs.Every.{all-of, all-to, all-map}
-use Rattle.decimal.specs.Decimal.{isDigit, numberIn, numberFrom}
+use Rattle.decimal.specs.Decimal.{isDigit, numberFrom}
 use Rattle.decimal.specs.Code.{digitsIn}
 use Rattle.decimal.proofs.Scanned.{Stops, digits-read, digits-front}
 use Rattle.calendar.specs.Text.{dayIn}
@@ -23,25 +23,10 @@ use Rattle.roster.specs.Code.{separator, separated, loginAt, dateSize, v
 use Rattle.roster.proofs.Quoting.{Ends, Behind}
 use Rattle.roster.proofs.WrittenLines.{char-written}
 use Rattle.roster.proofs.Values.{login-number, capital-range, small-range}
-use Rattle.roster.proofs.FieldTexts.{rights-range, digit-plain, day-plain}
+use Rattle.roster.proofs.FieldTexts.{IsLogin, login-to, rights-range, digit-plain, day-plain}
 use Rattle.roster.proofs.Separated.{Finds, Separates, separated-to}
 
 -- ---- logins
-
-record IsLogin (c : List ℕ) (x : ℕ) : Type 0 where
-  digits : all isDigit c ≡ true
-  few : length c ≤ mostLoginDigits
-  value : numberIn c ≡ x
-  in-range : isLoginNumber x ≡ true
-
-login-to : (c : List ℕ) (x : ℕ) → loginIn c ≡ some x → IsLogin c x
-unfolding loginIn
-login-to c x e =
-    let t = chosen _ (numberIn c) x e in
-    let u = and-eq-true-iff (all isDigit c) _ .0 (t .0) in
-    let v = and-eq-true-iff (leb 1 (length c) && leb (length c) mostLoginDigits) (isLoginNumber (numberIn c)) .0 (u .1) in
-    let w = and-eq-true-iff (leb 1 (length c)) (leb (length c) mostLoginDigits) .0 (v .0) in
-    record { digits = u .0; few = leb-true _ _ (w .1); value = t .1; in-range = ap isLoginNumber (sym (t .1)) ∙ v .1 }
 
 -- no digits would be the number 0
 filled : (c : List ℕ) (x : ℕ) → IsLogin c x → 1 ≤ length c

@@ -16,6 +16,7 @@ use Rattle.lists.proofs.Tests.{cond-cases, clash}
 use Rattle.calendar.specs.declared.DayRead.{DayRead}
 use Rattle.calendar.specs.declared.DayRead.the-variants.{Read, Malformed}
 use Rattle.calendar.specs.Text.{dayIn, dayRead}
+use Rattle.calendar.proofs.Characters.{elements, by-elements}
 use Rattle.calendar.proofs.Texts.{day-length}
 use Rattle.roster.specs.Fields.{isLoginNumber, isCapital, isSmall, isHexDigit, hexValue, hexFrom, rightsDigits, rightsIn}
 use Rattle.roster.proofs.FieldTexts.{hex-value}
@@ -75,12 +76,8 @@ module _ (a b c d : ℕ) where
 
 -- a text of four characters
 four-of : (t : List ℕ) → length t ≡ 4 → t ≡ getD t 0 0 ∷ getD t 1 0 ∷ getD t 2 0 ∷ getD t 3 0 ∷ []
-four-of [] h = absurd (omega arith)
-four-of (a ∷ []) h = absurd (omega arith)
-four-of (a ∷ b ∷ []) h = absurd (omega arith)
-four-of (a ∷ b ∷ c ∷ []) h = absurd (omega arith)
-four-of (a ∷ b ∷ c ∷ d ∷ []) h = refl
-four-of (a ∷ b ∷ c ∷ d ∷ x ∷ xs) h = absurd (omega arith)
+unfolding elements
+four-of t h = by-elements 4 0 t h
 
 module _ (t : List ℕ) (h : length t ≡ 4) (a b c d : ℕ)
     (ea : a ≡ hexOf (getD t 0 0)) (eb : b ≡ hexOf (getD t 1 0)) (ec : c ≡ hexOf (getD t 2 0)) (ed : d ≡ hexOf (getD t 3 0)) where

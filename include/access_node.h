@@ -53,10 +53,11 @@
 extern "C" {
 #endif
 
-/* Which calls, records and rules this header is for. Images of two editions are not to be mixed, but
- * for those of 1 to 3: edition 2 adds node_page, edition 3 node_roster_import and
- * node_roster_export, and nothing else changes. */
-#define ACCESS_NODE_EDITION 3
+/* Which calls, records and rules this header is for. Edition 2 adds node_page, edition 3
+ * node_roster_import and node_roster_export; nothing else changes in them. In edition 4 proposals
+ * lapse after 60 days: no record changes, but the rules do. All nodes of a park run under the same
+ * rules: those of editions 1 to 3, or those of edition 4. */
+#define ACCESS_NODE_EDITION 4
 
 /* Sizes of whole records. A sheet has 0 to ACCESS_NODE_MOST_ROWS rows. */
 #define ACCESS_NODE_CHECKPOINT_SIZE 1108
@@ -103,10 +104,10 @@ extern "C" {
 #define ACCESS_NODE_DAY_BACK 7       /* announced for a day before the agreed day */
 #define ACCESS_NODE_NOT_SIGNED 8     /* too few trustees of the level that the kind needs */
 #define ACCESS_NODE_SEAT_UNFIT 9     /* the seat's standing does not fit the kind or the start */
-#define ACCESS_NODE_NOT_NOTICED 10   /* no equal proposal announced at least 7 days before */
+#define ACCESS_NODE_NOT_NOTICED 10   /* no equal proposal announced 7 to 60 days before */
 #define ACCESS_NODE_TABLE_FULL 11    /* no row left for a proposal or a login */
 #define ACCESS_NODE_QUORUM_LOST 12   /* fewer seats would be present than the quorum needs */
-#define ACCESS_NODE_NOT_FOUND 13     /* no such proposal to cancel, no such login to end */
+#define ACCESS_NODE_NOT_FOUND 13     /* no such proposal, or a lapsed one; no such login to end */
 #define ACCESS_NODE_TOO_LOW 14       /* a life not above the listed one, or a grant that is over */
 #define ACCESS_NODE_CANNOT_VOTE 15   /* no quorum, and the own seat is not present at this life */
 #define ACCESS_NODE_VOTED_OTHER 16   /* no quorum, and voted for other bytes in this cycle */

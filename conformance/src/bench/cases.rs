@@ -62,6 +62,7 @@ impl Size {
 
     /// The calls, each as often as it has another way to end.
     pub fn cases(&self) -> Vec<Case> {
+        let propose = late_proposal();
         let remove = announcement(6, records::arguments(&[self.proposals - 1]));
         let grant = announcement(8, records::grant(500 * self.logins, DAY + 200, 3));
         let end = announcement(9, records::arguments(&500u32.to_le_bytes()));
@@ -70,6 +71,11 @@ impl Size {
         let start = Records::Start(self.state().write(), records::start(0, LIFE));
         vec![
             self.case("start", start, 0),
+            self.case(
+                "deliver: propose done",
+                self.deliver(&propose, self.rows),
+                0,
+            ),
             self.case("deliver: remove done", self.deliver(&remove, self.rows), 0),
             self.case("deliver: grant done", self.deliver(&grant, self.rows), 0),
             self.case("deliver: end done", self.deliver(&end, self.rows), 0),
@@ -164,6 +170,12 @@ fn login(i: u32) -> Login {
 
 fn announcement(kind: u16, arguments: [u8; 12]) -> Vec<u8> {
     records::announcement(kind, CYCLE, DAY, arguments)
+}
+
+/// A proposal on a day on which all that are listed have lapsed: a full table takes it.
+fn late_proposal() -> Vec<u8> {
+    let arguments = records::propose(6, records::subject(6, &[0]));
+    records::announcement(1, CYCLE, DAY + 41, arguments)
 }
 
 fn query(login: u32, day: u32) -> Records {

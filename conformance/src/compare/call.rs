@@ -56,10 +56,12 @@ pub struct Outcome {
     pub written: Option<Vec<u8>>,
 }
 
-/// A call that was made, with its outcome.
+/// A call that was made at a host, with its outcome.
 pub struct Event {
     pub request: Request,
     pub outcome: Outcome,
+    /// The image of what the host holds after it; empty where it holds no node.
+    pub held: Vec<u8>,
 }
 
 pub const VOTED: u32 = 128;

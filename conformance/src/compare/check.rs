@@ -2,6 +2,7 @@
 
 pub mod claims;
 pub mod hosts;
+mod notices;
 pub mod one_call;
 pub mod pages;
 pub mod program;

@@ -2,7 +2,8 @@
 //! checks what it reads or writes: malformed checkpoints are made with it too.
 
 use crate::layout::{
-    self, CHECKPOINT, CHECKPOINT_KIND, CHECKPOINT_SIZE, IMAGE_SIZE, LOGIN, LOGINS,
+    self, kind_of, number_at, ARGUMENTS, BODY, CHECKPOINT, CHECKPOINT_KIND, CHECKPOINT_SIZE,
+    CYCLE_AND_DAY, IMAGE_SIZE, LOGIN, LOGINS, SUBJECT_KIND,
 };
 use crate::layout::{MISSES_AT, OWN, PROPOSAL, PROPOSALS, ROW, ROWS, ROW_SIZE, SEATS, SEAT_ROW};
 use crate::layout::{SUBJECT_SIZE, VOTE, VOTED_AT};
@@ -175,6 +176,39 @@ impl Seat {
 }
 
 impl Proposal {
+    /// What a performed propose adds.
+    pub fn of(announcement: &[u8]) -> Proposal {
+        let [cycle, day] = layout::read(&CYCLE_AND_DAY, announcement, BODY);
+        let arguments = ARGUMENTS + SUBJECT_KIND.size;
+        Proposal {
+            cycle,
+            day,
+            kind: number_at(announcement, ARGUMENTS, SUBJECT_KIND.size) as u16,
+            arguments: std::array::from_fn(|i| announcement[arguments + i]),
+        }
+    }
+
+    /// The announced day minus the proposal's.
+    pub fn age(&self, announced: u32) -> i64 {
+        i64::from(announced) - i64::from(self.day)
+    }
+
+    /// "ripe from 7 to 60 days" (request A3)
+    pub fn is_ripe(&self, announced: u32) -> bool {
+        (7..=60).contains(&self.age(announced))
+    }
+
+    /// "lapses on day 61" (request A3)
+    pub fn is_lapsed(&self, announced: u32) -> bool {
+        self.age(announced) >= 61
+    }
+
+    /// Whether the announcement has its kind and arguments.
+    pub fn is_subject_of(&self, announcement: &[u8]) -> bool {
+        let arguments = &announcement[ARGUMENTS..ARGUMENTS + SUBJECT_SIZE];
+        kind_of(announcement) == self.kind && arguments == self.arguments
+    }
+
     fn read(row: &[u8]) -> Proposal {
         let [cycle, day, kind] = layout::read(&PROPOSAL, row, 0);
         let arguments = layout::size(&PROPOSAL);

@@ -297,6 +297,7 @@ fn run_random(
         let mut take_up = |event: Option<Event>| {
             let Some(event) = event else { return Ok(()) };
             coverage.note(&event.request, &event.outcome);
+            coverage.notices.note(&event.request, &event.outcome);
             maker.learn(&event);
             claims.note(&event)
         };

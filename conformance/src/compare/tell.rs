@@ -2,6 +2,9 @@
 
 pub mod coverage;
 pub mod kept_case;
+mod marks;
+mod notice_marks;
+mod notices;
 mod ranges;
 pub mod replay;
 pub mod roster_marks;

@@ -4,7 +4,7 @@ use super::call::{answer_in, count_in, Event, Outcome, Records, Request};
 use super::check::claims::{Claims, Tally};
 use super::check::rerun;
 use super::check::rosters::round_trip;
-use super::fields::{Login, OwnFields, StateFields};
+use super::fields::{Login, OwnFields, Proposal, StateFields};
 use super::make::{records, rosters};
 use super::{random_history, Case, Random, FAULTY, PAPER};
 use crate::faulty;
@@ -19,10 +19,11 @@ const OWN: OwnFields = OwnFields {
 
 fn event(state: &StateFields, records: Records, after: &StateFields) -> Event {
     let image = OWN.image(state);
+    let held = OWN.image(after);
     let outcome = Outcome {
         number: 0,
         count: 0,
-        written: Some(OWN.image(after)),
+        written: Some(held.clone()),
     };
     Event {
         request: Request {
@@ -31,6 +32,7 @@ fn event(state: &StateFields, records: Records, after: &StateFields) -> Event {
             out: IMAGE_SIZE,
         },
         outcome,
+        held,
     }
 }
 
@@ -179,6 +181,7 @@ fn page_with(fault: &str, own: &OwnFields, day: u32) -> Event {
     let returned = (FAULTY.calls.page)(&image, day, &mut page);
     faulty::set(None);
     Event {
+        held: image.clone(),
         request: Request {
             image,
             records: Records::Page(day),
@@ -218,6 +221,64 @@ fn a_word_that_no_query_agrees_with_is_seen() {
         assert_eq!(read(NO_FAULT, day).unwrap().asked, asked);
         let what = read(fault, day).err().unwrap();
         assert!(what.contains("and a query answers"), "{fault}: {what}");
+    }
+}
+
+/// A removal on day 100, by a node by value of the copy with a fault. Seat 2 was proposed 61 days
+/// before it in cycle 1, and 60 days before it in cycle 2.
+fn removal_with(fault: &str, seat: u8, rows: &[(u8, u32)]) -> Event {
+    let proposal = |cycle, day| Proposal {
+        cycle,
+        day,
+        kind: 6,
+        arguments: records::subject(6, &[2]),
+    };
+    let mut state = StateFields::printed_run();
+    state.cycle = 9;
+    state.proposals = vec![proposal(1, 39), proposal(2, 40)];
+    let image = OWN.image(&state);
+    let announcement = records::announcement(6, 9, 100, records::arguments(&[seat]));
+    let sheet = records::sheet([1, 1], rows);
+    faulty::set(faulty::find(fault));
+    let mut node = (FAULTY.from_image)(&image).expect("a node");
+    let number = node.deliver(&announcement, &sheet);
+    let held = node.image();
+    faulty::set(None);
+    Event {
+        request: Request {
+            image,
+            records: Records::Deliver(announcement, sheet),
+            out: IMAGE_SIZE,
+        },
+        outcome: Outcome {
+            number,
+            count: 0,
+            written: Some(held.clone()),
+        },
+        held,
+    }
+}
+
+#[test]
+fn proposals_that_are_not_left_as_they_should_be_are_seen() {
+    let quorum: &[(u8, u32)] = &[(0, 1), (1, 1)];
+    let read = |fault, seat, rows| claims_of(&[removal_with(fault, seat, rows)]).err();
+    for (seat, rows) in [(2, quorum), (2, &[]), (1, quorum)] {
+        assert_eq!(read(NO_FAULT, seat, rows), None);
+    }
+    let lapsed = "the proposal of cycle 1 has lapsed on the agreed day 100";
+    let others = "kind 6 leaves other proposals than it should";
+    let missing = "kind 6 is performed with no proposal of 7 to 60 days";
+    let voted = "answer 128: the checkpoint is another than before";
+    let refused = "answer 10: the checkpoint is another than before";
+    for (fault, seat, rows, what) in [
+        ("LapsedNotDropped", 2, quorum, lapsed),
+        ("LapsedUsedUp", 2, quorum, others),
+        ("Rule10Missing", 1, quorum, missing),
+        ("VoteDropsLapsed", 2, &[], voted),
+        ("Rules9To14DropLapsed", 1, quorum, refused),
+    ] {
+        assert_eq!(read(fault, seat, rows).as_deref(), Some(what), "{fault}");
     }
 }
 

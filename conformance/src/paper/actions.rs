@@ -1,12 +1,24 @@
 //! What the nine actions do to a state.
 
 use super::announcement::{Action, Announcement};
-use super::state::{Login, Proposal, Seat, Standing, State};
+use super::state::{Day, Login, Proposal, Seat, Standing, State};
+
+/// Request A3: "Lapsed rows, judged by the announced day, are dropped".
+pub fn without_lapsed(state: &State, announced: Day) -> State {
+    let mut left = state.clone();
+    left.proposals.retain(|p| !is_lapsed(p, announced));
+    left
+}
+
+/// Request A3: "lapses on day 61".
+fn is_lapsed(proposal: &Proposal, announced: Day) -> bool {
+    announced.since(proposal.day) >= 61
+}
 
 /// Where in the list "the ripe proposal of lowest cycle with the same kind and arguments" stands.
 pub fn ripe(state: &State, announcement: &Announcement) -> Option<usize> {
     let listed = state.proposals.iter().enumerate();
-    let fitting = listed.filter(|(_, p)| is_equal(p, announcement) && is_ripe(p, announcement));
+    let fitting = listed.filter(|(_, p)| is_equal(p, announcement) && is_ripe(p, announcement.day));
     fitting.min_by_key(|(_, p)| p.cycle).map(|(at, _)| at)
 }
 
@@ -14,9 +26,9 @@ fn is_equal(proposal: &Proposal, announcement: &Announcement) -> bool {
     proposal.subject == announcement.subject()
 }
 
-/// "ripe means announced day minus proposal day is at least 7"
-fn is_ripe(proposal: &Proposal, announcement: &Announcement) -> bool {
-    announcement.day.since(proposal.day) >= 7
+/// "ripe means announced day minus proposal day is at least 7"; request A3: "ripe from 7 to 60 days".
+fn is_ripe(proposal: &Proposal, announced: Day) -> bool {
+    (7..=60).contains(&announced.since(proposal.day))
 }
 
 /// The state after the action: "cycle plus 1, day as announced". Defined for every state and

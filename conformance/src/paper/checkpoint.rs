@@ -75,7 +75,8 @@ fn read_proposal(row: &[u8]) -> Read<Proposal> {
     })
 }
 
-/// "proposals in strictly rising cycle below the cycle, day at most the agreed day"
+/// "proposals in strictly rising cycle below the cycle, day at most the agreed day"; a lapsed one
+/// (request A3) is well formed.
 fn proposals_fit(state: &State) -> bool {
     let mut pairs = state.proposals.iter().zip(state.proposals.iter().skip(1));
     let rising = pairs.all(|(a, b)| a.cycle < b.cycle);

@@ -45,20 +45,24 @@ impl Node {
         if self.is_halted() {
             return No(3);
         }
-        if let Some(number) = rules::refusal(&self.state, announcement, sheet) {
+        // Request A3: lapsed rows "are dropped before rules 9 to 14 are tried, and are gone from the
+        // state if the action is performed; a refusal drops none". Rules 4 to 8 don't look at
+        // proposals. A refusal or a vote leaves `self.state` as it was.
+        let left = actions::without_lapsed(&self.state, announcement.day);
+        if let Some(number) = rules::refusal(&left, announcement, sheet) {
             return No(number);
         }
         // "the sheet shows a quorum of the state before the action"; only its rows count.
         if sheet.votes(&self.state) >= self.state.quorum() {
-            self.perform(announcement);
+            self.perform(&left, announcement);
             return Done;
         }
         self.vote(announcement)
     }
 
     /// "the node performs it: cycle plus 1, day as announced, vote cleared, misses 0"
-    fn perform(&mut self, announcement: &Announcement) {
-        self.state = actions::perform(&self.state, announcement);
+    fn perform(&mut self, left: &State, announcement: &Announcement) {
+        self.state = actions::perform(left, announcement);
         self.vote = None;
         self.misses = 0;
     }

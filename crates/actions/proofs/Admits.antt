@@ -23,21 +23,12 @@ use Rattle.records.specs.declared.Action.the-variants.{Propose, Cancel, Present
 use Rattle.records.specs.Actions.{kindOf, levelOf, subjectOf}
 use Rattle.rules.specs.Rules.{isSigned, lacksNotice, noticeRefusal, quorumRefusal, checkRefusal, actionRefusal}
 use Rattle.rules.proofs.Passed.{quorum-left, action-passes}
-use Rattle.rules.proofs.Notices.{has-notice}
-use Rattle.actions.specs.Claims.{AlwaysSigned, AlwaysNotified, Found, AlwaysFound, FullOnlyWhenFull}
+use Rattle.actions.specs.Perform.{withoutLapsed}
+use Rattle.actions.specs.Claims.{AlwaysSigned, Found, AlwaysFound, FullOnlyWhenFull}
 
 -- Rule 8: a majority signed.
 pub always-signed : AlwaysSigned
-always-signed s a mask1 mask2 p = action-passes s (a .day) mask1 mask2 (a .action) (p .action) .signed
-
--- Rule 10: a mature proposal is listed.
-pub always-notified : AlwaysNotified
-unfolding noticeRefusal
-always-notified s a mask1 mask2 p n =
-    let passed = action-passes s (a .day) mask1 mask2 (a .action) (p .action) .notified in
-    let x = subjectOf (a .action) in
-    let h = has-notice (s .proposals) (a .day) x n (unrefused (lacksNotice (s .proposals) (a .day) x) 10 refl passed) in
-    record { proposal = h .proposal; listed = h .listed; notice = h .notice }
+always-signed s a mask1 mask2 p = action-passes (withoutLapsed (a .day) s) (a .day) mask1 mask2 (a .action) (p .action) .signed
 
 found : (s : State) (d : Day) (x : Action) → checkRefusal s d x ≡ 0 → Found s d x
 unfolding checkRefusal
@@ -56,7 +47,9 @@ found s d (Grant x) e =
 found s d (End login) e = not-false _ (unrefused (not (isListed login (s .logins))) 13 refl e)
 
 pub always-found : AlwaysFound
-always-found s a mask1 mask2 p = found s (a .day) (a .action) (action-passes s (a .day) mask1 mask2 (a .action) (p .action) .checked)
+always-found s a mask1 mask2 p =
+    let seen = withoutLapsed (a .day) s in
+    found seen (a .day) (a .action) (action-passes seen (a .day) mask1 mask2 (a .action) (p .action) .checked)
 
 -- No number of a chain is k where none of its parts is.
 without : (a b k : ℕ) → a ≢ k → b ≢ k → (a orElse b) ≢ k

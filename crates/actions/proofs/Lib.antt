@@ -4,3 +4,4 @@ pub mod Sound
 pub mod Kept
 pub mod Performed
 pub mod Admits
+pub mod Notified

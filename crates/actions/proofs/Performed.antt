@@ -15,10 +15,10 @@ use Rattle.tables.specs.Logins.{isNamed, isListed}
 use Rattle.tables.proofs.LoginTable.{unlisted-grant, unlisted-end, unlisted-ended}
 use Rattle.records.specs.declared.Action.{Action}
 use Rattle.records.specs.declared.Action.the-variants.{Propose, Cancel, Presents, Certify, Minima, Remove, Rejoin, Grant, End}
-use Rattle.actions.specs.Perform.{withStanding, withLife, effect, useProposal, act, perform}
+use Rattle.actions.specs.Perform.{withStanding, withLife, effect, useProposal, act, advance, withoutLapsed, perform}
 use Rattle.actions.specs.Claims.{KeepsWellFormed, AlwaysAdvances, NeverFrees, EndDrops, IsGrantOf, OnlyGrantAdds}
 use Rattle.rules.proofs.Passed.{in-time, action-passes}
-use Rattle.actions.proofs.Sound.{sound-of, sound-to, sound-later}
+use Rattle.actions.proofs.Sound.{sound-of, sound-to, sound-later, without-lapsed}
 use Rattle.actions.proofs.Kept.{act-kept}
 
 -- A cycle that is not the last has one after it.
@@ -27,19 +27,20 @@ next-cycle c h n = rw (lt-ltb (c .0) (lastCycle .0) (omega arith))
 
 -- Where no rule applies, the state that an announcement leaves is well formed.
 pub keeps-well-formed : KeepsWellFormed
-unfolding perform
+unfolding perform advance
 keeps-well-formed s a mask1 mask2 w r p =
     let t = in-time s a (p .time) in
-    let before = sound-of s w in
+    let seen = withoutLapsed (a .day) s in
+    let before = without-lapsed (sound-of s w) (a .day) in
     let high = w .fits .0 .0 .0 in
-    let q = action-passes s (a .day) mask1 mask2 (a .action) (p .action) in
+    let q = action-passes seen (a .day) mask1 mask2 (a .action) (p .action) in
     rw (next-cycle (s .cycle) high (t .not-last))
-    (sound-to (act-kept s (a .day) before (sound-later before (omega arith) (t .day)) (a .action) high (r .day) (r .action) (q .checked))
+    (sound-to (act-kept seen (a .day) before (sound-later before (omega arith) (t .day)) (a .action) high (r .day) (r .action) (q .checked))
     (omega arith) (let n = t .not-last in omega arith) (r .day))
 
 -- It is in the next cycle, on the announced day.
 pub always-advances : AlwaysAdvances
-unfolding perform
+unfolding perform advance
 always-advances s a w e =
     let t = in-time s a e in
     record {
@@ -51,13 +52,13 @@ always-advances s a w e =
 
 -- A seat that is not free is not freed.
 pub never-frees : NeverFrees
-unfolding perform act withStanding withLife effect useProposal
+unfolding perform advance act withStanding withLife effect useProposal
 never-frees s a i n = after (a .action)
   where
     after-set : (j : ℕ) (x : Seat) → (i ≡ j → x .standing ≢ free) → seatAt i (setSeat j (x .standing) (x .life) (s .seats)) .standing ≢ free
     after-set j x f = set-keeps (λ (y : Seat). y .standing ≢ free) (s .seats) i j x freeSeat f n
 
-    after : (x : Action) → seatAt i (act s (a .day) x .seats) .standing ≢ free
+    after : (x : Action) → seatAt i (act (withoutLapsed (a .day) s) (a .day) x .seats) .standing ≢ free
     after (Propose x) = n
     after (Cancel c) = n
     after (Presents j true) = after-set j _ (λ e z. omega arith)
@@ -71,18 +72,18 @@ never-frees s a i n = after (a .action)
 
 -- An ended login is not listed.
 pub end-drops : EndDrops
-unfolding perform act effect useProposal
+unfolding perform advance act effect useProposal
 end-drops s a login e = rw e (unlisted-ended login (s .logins))
 
 -- A login that is listed afterwards and was not before has been granted.
 pub only-grant-adds : OnlyGrantAdds
-unfolding perform act withStanding withLife effect useProposal
+unfolding perform advance act withStanding withLife effect useProposal
 only-grant-adds s a login n = after (a .action) refl
   where
     same : isListed login (s .logins) ≡ true → IsGrantOf login a
     same t = absurd (false≢true (sym n ∙ t))
 
-    after : (x : Action) → a .action ≡ x → isListed login (act s (a .day) x .logins) ≡ true → IsGrantOf login a
+    after : (x : Action) → a .action ≡ x → isListed login (act (withoutLapsed (a .day) s) (a .day) x .logins) ≡ true → IsGrantOf login a
     after (Propose x) e t = same t
     after (Cancel c) e t = same t
     after (Presents j flag) e t = same t

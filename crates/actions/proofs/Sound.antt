@@ -1,6 +1,6 @@
 -- A well-formed state in its parts, and each part set anew.
 use mathlib.Core.Path.{_≡_, refl, _∙_}
-use mathlib.Core.Bool.{true, cond, _&&_, and-eq-true-iff}
+use mathlib.Core.Bool.{Bool, true, cond, _&&_, and-eq-true-iff}
 use mathlib.Core.List.{List}
 use Prim.Native.Nat.{ℕ, _+_, _^_, _≤_, _<_}
 use native.Mathlib.Omega.{arith}
@@ -8,6 +8,7 @@ use lib.Dec.{eqb, leb}
 use lib.ListN.{length, length-set}
 use borrow.Author.Tests.{leb-true, le-leb, lt-ltb}
 use Rattle.lists.specs.Fold.{all}
+use Rattle.lists.specs.Table.{keep, fill}
 use Rattle.lists.proofs.Every.{All, all-map, all-set, all-getD}
 use Rattle.lists.proofs.Count.{count-length}
 use Rattle.lists.proofs.Tables.{IsTable, table-drop}
@@ -24,13 +25,14 @@ use Rattle.state.specs.Minima.{isInRange}
 use Rattle.state.specs.Update.{with, withTime, withMinima, withSeats, withProposals, withLogins}
 use Rattle.state.specs.Seats.{present, seatAt, setSeat, isPresent, presentSeats, quorum, quorumOf}
 use Rattle.state.specs.Rows.{noProposal, isProposal, isLogin}
-use Rattle.tables.specs.Proposals.{dropProposal}
+use Rattle.tables.specs.Proposals.{dropProposal, dropLapsed}
 use Rattle.state.specs.WellFormed.{isTrusteeCount, cycleOf, isWellFormedSeat, isWellFormedProposal, isWellFormedLogin}
 use Rattle.state.specs.WellFormed.{areWellFormedProposals, areWellFormedLogins, isWellFormed}
 use Rattle.state.proofs.MinimaRanges.{in-range}
 use Rattle.state.proofs.SeatLaws.{present-set}
 use Rattle.state.proofs.ProposalRows.{proposal-ages}
 use Rattle.checkpoint.specs.Format as format
+use Rattle.actions.specs.Perform.{withoutLapsed}
 use Rattle.actions.specs.Claims.{WellFormed}
 use Rattle.actions.proofs.FittingRows.{Good, rows-of, rows-fit, rows-ok, table-of, table-to}
 
@@ -121,14 +123,21 @@ module _ {c : Cycle} {d : Day} {s : State} (h : Sound c d s) where
       with-tables (s .seats) (s .proposals) (s .logins) (h .seats) (h .enough)
       (record { size = t .size; rising = t .rising; each = all-map (λ r g. (g .0, proposal-ages r lc ld (g .1))) (t .each) }) (h .logins)
 
-  -- Each part set anew: the proposals, one proposal dropped, the logins, a seat, the minima.
+  -- Each part set anew: the proposals, one proposal dropped, the lapsed ones dropped, the logins, a seat, the minima.
   pub with-proposals : (ps : List Proposal) → ProposalTable c d ps → Sound c d (withProposals ps s)
   unfolding quorumOf
   with-proposals ps t = with-tables (s .seats) ps (s .logins) (h .seats) (h .enough) t (h .logins)
 
+  with-kept : (p : Proposal → Bool) → Sound c d (withProposals (fill proposalRows noProposal (keep p (s .proposals))) s)
+  with-kept p = with-proposals _ (table-drop (h .proposals) p noProposal refl (((omega arith, omega arith), (omega arith, omega arith)), refl))
+
   pub with-dropped : (x : Cycle) → Sound c d (withProposals (dropProposal x (s .proposals)) s)
   unfolding dropProposal
-  with-dropped x = with-proposals _ (table-drop (h .proposals) _ noProposal refl (((omega arith, omega arith), (omega arith, omega arith)), refl))
+  with-dropped x = with-kept _
+
+  pub without-lapsed : (x : Day) → Sound c d (withoutLapsed x s)
+  unfolding dropLapsed
+  without-lapsed x = with-kept _
 
   pub with-logins : (ls : List Login) → LoginTable ls → Sound c d (withLogins ls s)
   unfolding quorumOf

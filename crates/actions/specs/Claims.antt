@@ -6,16 +6,15 @@ use mathlib.Core.List.{List·Memᴰ}
 use Prim.Native.Nat.{ℕ, suc, _-_, _≤_, _<_}
 use lib.ListN.{getD}
 use Rattle.state.specs.declared.Day.{Day}
-use Rattle.state.specs.declared.Subject.{Subject}
 use Rattle.state.specs.declared.Proposal.{Proposal}
 use Rattle.state.specs.declared.Login.{Login}
 use Rattle.state.specs.declared.State.{State}
 use Rattle.state.specs.Limits.{proposalRows, loginRows}
-use Rattle.state.specs.Time.{DayNotAfter}
+use Rattle.state.specs.Time.{daysSince, DayNotAfter}
 use Rattle.state.specs.Seats.{free, certified, present, seatAt, isActive, presentSeats, quorum}
 use Rattle.state.specs.Rows.{noProposal, isProposal, noLogin, isLogin}
-use Rattle.state.specs.WellFormed.{isWellFormed}
-use Rattle.tables.specs.Proposals.{proposalsFull, hasProposal}
+use Rattle.state.specs.WellFormed.{cycleOf, isWellFormed}
+use Rattle.tables.specs.Proposals.{proposalsFull, hasProposal, validDays, isLapsed}
 use Rattle.tables.specs.Logins.{isListed, lacksRow}
 use Rattle.tables.specs.Claims.{IsNotice}
 use Rattle.records.specs.declared.Announcement.{Announcement}
@@ -25,17 +24,17 @@ use Rattle.records.specs.Actions.{kindOf, levelOf, subjectOf}
 use Rattle.records.specs.Claims.{AnnouncementInRange}
 use Rattle.checkpoint.specs.Checkpoint.{Fits}
 use Rattle.rules.specs.Rules.{isSigned, timeRefusal, actionRefusal}
-use Rattle.actions.specs.Perform.{perform}
+use Rattle.actions.specs.Perform.{withoutLapsed, perform}
 
 -- a state as memory can hold it, and well formed
 pub record WellFormed (s : State) : Type 0 where
   pub fits : Fits s
   pub well-formed : isWellFormed s ≡ true
 
--- none of the rules 4 to 14 applies to the announcement in this state, with these masks
+-- none of the rules 4 to 14 applies to the announcement in this state, with these masks; the lapsed proposals are dropped before
 pub record Admitted (s : State) (a : Announcement) (mask1 mask2 : ℕ) : Type 0 where
   pub time : timeRefusal (s .cycle) (s .day) a ≡ 0
-  pub action : actionRefusal s (a .day) mask1 mask2 (a .action) ≡ 0
+  pub action : actionRefusal (withoutLapsed (a .day) s) (a .day) mask1 mask2 (a .action) ≡ 0
 
 -- Where no rule applies, the state that an announcement leaves is well formed again.
 abbrev pub KeepsWellFormed : Type 0
@@ -79,18 +78,30 @@ Signed s mask1 mask2 x = isSigned s (levelOf (kindOf x)) mask1 mask2 ≡ true
 abbrev pub AlwaysSigned : Type 0
 AlwaysSigned = (s : State) (a : Announcement) (mask1 mask2 : ℕ) → Admitted s a mask1 mask2 → Signed s mask1 mask2 (a .action)
 
--- a listed proposal of this subject, at least the notice before the announced day
-pub record Notice (s : State) (announced : Day) (x : Subject) : Type 0 where
+-- the notice that an announced action with a subject uses up
+pub record UsesNotice (s : State) (a : Announcement) : Type 0 where
   pub proposal : Proposal
+  -- it is listed, and from 7 to 60 days before the announced day
   pub listed : List·Memᴰ proposal (s .proposals)
-  pub notice : IsNotice x announced proposal
+  pub notice : IsNotice (subjectOf (a .action)) (a .day) proposal
+  -- "of lowest cycle"
+  pub lowest : (r : Proposal) → List·Memᴰ r (s .proposals) → IsNotice (subjectOf (a .action)) (a .day) r → cycleOf proposal ≤ cycleOf r
+  -- this row is gone, and each other stays that has not lapsed
+  pub gone : ¬ List·Memᴰ proposal (perform s a .proposals)
+  pub others : (r : Proposal) → List·Memᴰ r (s .proposals) → isProposal r ≡ true → r ≢ proposal → isLapsed (a .day) r ≡ false
+      → List·Memᴰ r (perform s a .proposals)
 
--- An action that has a subject has such a notice.
+-- An action that has a subject uses up such a notice.
 abbrev pub AlwaysNotified : Type 0
-AlwaysNotified = (s : State) (a : Announcement) (mask1 mask2 : ℕ) → Admitted s a mask1 mask2 → subjectOf (a .action) .kind ≢ 0
-    → Notice s (a .day) (subjectOf (a .action))
+AlwaysNotified = (s : State) (a : Announcement) (mask1 mask2 : ℕ) → WellFormed s → Admitted s a mask1 mask2 → subjectOf (a .action) .kind ≢ 0
+    → UsesNotice s a
 
--- what else an admitted action of each kind found in the state
+-- After a performed announcement no proposal has lapsed on its day: none is older than 60 days.
+abbrev pub NoneOlder : Type 0
+NoneOlder = (s : State) (a : Announcement) (r : Proposal) → List·Memᴰ r (perform s a .proposals) → isProposal r ≡ true
+    → daysSince (perform s a .day) (r .day) ≤ validDays
+
+-- what else an admitted action of each kind found in the state that it saw
 abbrev pub Found : State → Day → Action → Type 0
 Found s d (Propose x) = proposalsFull (s .proposals) ≡ false
 Found s d (Cancel c) = hasProposal c (s .proposals) ≡ true
@@ -103,7 +114,7 @@ Found s d (Grant x) = (lacksRow (x .login) (s .logins) ≡ false) × DayNotAfter
 Found s d (End login) = isListed login (s .logins) ≡ true
 
 abbrev pub AlwaysFound : Type 0
-AlwaysFound = (s : State) (a : Announcement) (mask1 mask2 : ℕ) → Admitted s a mask1 mask2 → Found s (a .day) (a .action)
+AlwaysFound = (s : State) (a : Announcement) (mask1 mask2 : ℕ) → Admitted s a mask1 mask2 → Found (withoutLapsed (a .day) s) (a .day) (a .action)
 
 -- 11 is given only where the last row of a table is used.
 abbrev pub FullOnlyWhenFull : Type 0

@@ -8,7 +8,7 @@ use Rattle.state.specs.declared.State.{State}
 use Rattle.state.specs.Time.{nextCycle}
 use Rattle.state.specs.Update.{withTime, withMinima, withSeats, withProposals, withLogins}
 use Rattle.state.specs.Seats.{certified, present, retired, seatAt, setSeat}
-use Rattle.tables.specs.Proposals.{addProposal, dropProposal, matureProposal}
+use Rattle.tables.specs.Proposals.{addProposal, dropProposal, dropLapsed, matureProposal}
 use Rattle.tables.specs.Logins.{grantLogin, endLogin}
 use Rattle.records.specs.declared.Announcement.{Announcement}
 use Rattle.records.specs.declared.Action.{Action}
@@ -50,6 +50,14 @@ useProposal x d s = cond (eqb (x .kind) 0) s (withProposals (dropProposal (matur
 unfoldable pub act : State → Day → Action → State
 act s d x = useProposal (subjectOf x) d (effect s d x)
 
--- "the node performs it: cycle plus 1, day as announced"
+-- "cycle plus 1, day as announced", and the action
+unfoldable pub advance : State → Announcement → State
+advance s a = withTime (nextCycle (s .cycle)) (a .day) (act s (a .day) (a .action))
+
+-- "Lapsed rows, judged by the announced day, are dropped before rules 9 to 14 are tried": the state that those rules and the action see
+abbrev pub withoutLapsed : Day → State → State
+withoutLapsed d s = withProposals (dropLapsed d (s .proposals)) s
+
+-- "the node performs it": the lapsed rows "are gone from the state if the action is performed"
 unfoldable pub perform : State → Announcement → State
-perform s a = withTime (nextCycle (s .cycle)) (a .day) (act s (a .day) (a .action))
+perform s a = advance (withoutLapsed (a .day) s) a

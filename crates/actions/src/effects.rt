@@ -2,7 +2,7 @@
 ghost use mathlib.Core.Path.{_≡_};
 ghost use mathlib.Core.Bool.{cond};
 ghost use Rattle.records.specs.declared.Action.the-variants as Action;
-ghost use Rattle.actions.specs.Perform.{withStanding, withLife, effect, useProposal, act, perform};
+ghost use Rattle.actions.specs.Perform.{withStanding, withLife, effect, useProposal, act, advance, withoutLapsed};
 ghost use Rattle.state.specs.Update.{withSeats, withProposals, withLogins, withMinima};
 ghost use Rattle.state.specs.Seats.{certified, present};
 ghost use Rattle.state.specs.declared.Day.{Day};
@@ -27,6 +27,7 @@ use state::seats::set_seat;
 use tables::logins::end_login;
 use tables::logins::grant_login;
 use tables::proposals::add_proposal;
+use tables::proposals::drop_lapsed;
 use tables::proposals::drop_proposal;
 use tables::proposals::mature_proposal;
 
@@ -162,9 +163,17 @@ fn act(s: State, d: Day, action: Action) -> State
     }
 }
 
-// The state after an announcement is performed.
-pub fn perform(s: State, a: Announcement) -> State
-    ensures { λ r. ⌜ r ≡ perform s a ⌝ }
+// The state that the rules on proposals and the action see.
+pub fn without_lapsed(s: State, announced: Day) -> State
+    ensures { λ r. ⌜ r ≡ withoutLapsed announced s ⌝ }
+{
+    let rows = s.proposals;
+    with_proposals(s, drop_lapsed(rows, announced))
+}
+
+// The state after an announcement is performed, from the one that it sees.
+pub fn advance(s: State, a: Announcement) -> State
+    ensures { λ r. ⌜ r ≡ advance s a ⌝ }
 {
     let action = a.action;
     let day = a.day;

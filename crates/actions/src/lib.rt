@@ -1,4 +1,5 @@
 // The nine actions: each from a state to a state.
 mod effects;
 
-pub use effects::perform;
+pub use effects::advance;
+pub use effects::without_lapsed;

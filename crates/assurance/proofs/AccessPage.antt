@@ -3,7 +3,7 @@ use mathlib.Core.Path.{_≡_, refl, sym, ap, _∙_}
 use mathlib.Core.Logic.{_≢_, _⊎_, inl, inr}
 use mathlib.Core.Bool.{Bool, true, false, and-eq-true-iff, true≢false}
 use mathlib.Core.List.{List, map, map-map, List·Memᴰ, List·Memᴰ·head, List·Memᴰ·tail}
-use Prim.Native.Nat.{ℕ, _*_, _≤_, _<_}
+use Prim.Native.Nat.{ℕ, _*_, _<_}
 use native.Mathlib.Omega.{arith}
 use lib.Dec.{eqb}
 use lib.ListN.{length, length-map}
@@ -15,6 +15,7 @@ use Rattle.lists.proofs.Members.{all-in, to-keep, of-keep}
 use Rattle.lists.proofs.Count.{length-kept}
 use Rattle.lists.proofs.Firsts.{first-listed}
 use Rattle.lists.proofs.Tables.{Rising, unused, row, rising-of}
+use Rattle.lists.proofs.TableMembers.{rising-above}
 use Rattle.binary.specs.Codec.{decodeRows}
 use Rattle.binary.proofs.Codec.{read-back, fits-each, fits-rows, rows-back}
 use Rattle.state.specs.declared.Day.{Day}
@@ -93,12 +94,6 @@ found-member l rows e = pick (first-listed (isNamed l) noLogin rows)
     pick (inl z) = absurd (true≢false (sym e ∙ ap isLogin z))
     pick (inr m) = m .0
 
--- no row of a rising list is below its first
-above : {lo : ℕ} {rows : List Login} → Rising isLogin (λ r. r .login) lo rows → (r : Login) → List·Memᴰ r rows → isLogin r ≡ true → lo ≤ r .login
-above (unused h) r m u = absurd (true≢false (sym u ∙ all-in h m))
-above (row v l h) r (List·Memᴰ·head e) u = rw e l
-above (row v l h) r (List·Memᴰ·tail m) u = let k = above h r m u in omega arith
-
 -- a query for the login of a row of a rising list finds that row
 finds : {lo : ℕ} {rows : List Login} → Rising isLogin (λ r. r .login) lo rows → (r : Login) → List·Memᴰ r rows → isLogin r ≡ true
     → findLogin (r .login) rows ≡ r
@@ -106,7 +101,7 @@ unfolding findLogin first
 finds (unused h) r m u = absurd (true≢false (sym u ∙ all-in h m))
 finds (row v l h) r (List·Memᴰ·head e) u = rw (← e, eq-eqb (r .login) (r .login) refl)
 finds (row {r = x} v l h) r (List·Memᴰ·tail m) u =
-    let k = above h r m u in
+    let k = rising-above h m u in
     rw (ne-eqb (x .login) (r .login) (λ (z : x .login ≡ r .login). omega arith)) (finds h r m u)
 
 pub page-rows-are-found : PageRowsAreFound

@@ -8,8 +8,10 @@ use Rattle.records.specs.declared.Announcement.{Announcement}
 use Rattle.records.specs.Actions.{subjectOf}
 use Rattle.records.specs.Sheet.{level1, level2}
 use Rattle.checkpoint.specs.Checkpoint.{readCheckpoint}
-use Rattle.actions.specs.Claims.{WellFormed, Admitted, Signed, Notice, Found}
-use Rattle.actions.proofs.Admits.{always-signed, always-notified, always-found}
+use Rattle.actions.specs.Perform.{withoutLapsed}
+use Rattle.actions.specs.Claims.{WellFormed, Admitted, Signed, UsesNotice, Found}
+use Rattle.actions.proofs.Admits.{always-signed, always-found}
+use Rattle.actions.proofs.Notified.{always-notified}
 use Rattle.agreement.specs.History.{History}
 use Rattle.agreement.specs.Claims.{Park}
 use Rattle.agreement.specs.Chain.{Step, Reached}
@@ -32,10 +34,10 @@ module _ (first : List ℕ) (calls : History) (park : Park first calls) (s : Sta
   pub step-signed : Signed s (level1 (x .sheet)) (level2 (x .sheet)) (a .action)
   step-signed = always-signed s a _ _ step-admitted
 
-  pub step-notified : subjectOf (a .action) .kind ≢ 0 → Notice s (a .day) (subjectOf (a .action))
-  step-notified = always-notified s a _ _ step-admitted
+  pub step-notified : subjectOf (a .action) .kind ≢ 0 → UsesNotice s a
+  step-notified = always-notified s a _ _ step-well-formed step-admitted
 
-  pub step-found : Found s (a .day) (a .action)
+  pub step-found : Found (withoutLapsed (a .day) s) (a .day) (a .action)
   step-found = always-found s a _ _ step-admitted
 
   pub step-reached : Reached (readCheckpoint first .state) (Step calls) s

@@ -14,7 +14,7 @@ use Rattle.records.specs.declared.AnnouncementRead.the-variants.{Read, Malforme
 use Rattle.records.specs.Announcement.{readAnnouncement}
 use Rattle.records.specs.Sheet.{isSheet, level1, level2, rowsOf, countedSeats}
 use Rattle.actions.specs.Claims.{Admitted}
-use Rattle.actions.specs.Perform.{perform}
+use Rattle.actions.specs.Perform.{withoutLapsed, perform}
 use Rattle.refusals.specs.Refusals.{refuseIf, _orElse_}
 use Rattle.rules.specs.Rules.{timeRefusal, actionRefusal}
 use Rattle.node.specs.declared.Node.{Node}
@@ -62,10 +62,10 @@ unfolding deliverOf deliverRead deliverRefusal showsQuorum
 performed n ab sb a c q = rw (c .read, c .sheet, ne-eqb _ _ (c .running), c .admitted .time, c .admitted .action, le-leb _ _ q)
 
 -- what a performed deliver was handed
-record Performing (n : Node) (ab sb : List ℕ) : Type 0 where
-  announcement : Announcement
-  accepted : Accepted n ab sb announcement
-  quorum : ShowsQuorum n sb
+pub record Performing (n : Node) (ab sb : List ℕ) : Type 0 where
+  pub announcement : Announcement
+  pub accepted : Accepted n ab sb announcement
+  pub quorum : ShowsQuorum n sb
 
 performing : (n : Node) (ab sb : List ℕ) (r : DeliverReply) → Delivery n ab sb r → r .answer ≡ Done → Performing n ab sb
 performing n ab sb r (refuses k y e) d = let t = deliver-numbers y in let z : k ≡ 0 = sym (deliver-number e) ∙ ap deliverNumber d in absurd
@@ -75,11 +75,12 @@ performing n ab sb r (performs a acc q e) d = record { announcement = a; accepte
 
 module _ (n k : Node) (same : Alike n k) (ab sb : List ℕ) where
   -- rules 3 to 14
-  refusal-alike : (a : Announcement) → deliverRefusal (n .state) (n .own) a sb ≡ deliverRefusal (k .state) (k .own) a sb
+  refusal-alike : (a : Announcement)
+      → deliverRefusal (withoutLapsed (a .day) (n .state)) (n .own) a sb ≡ deliverRefusal (withoutLapsed (a .day) (k .state)) (k .own) a sb
   unfolding deliverRefusal
   refusal-alike a =
-      ap₂ (λ (b : Bool) (s : State). refuseIf b 3 orElse timeRefusal (s .cycle) (s .day) a orElse actionRefusal s (a .day) (level1 sb) (level2 sb)
-      (a .action))
+      ap₂ (λ (b : Bool) (s : State). refuseIf b 3 orElse timeRefusal (s .cycle) (s .day) a
+      orElse actionRefusal (withoutLapsed (a .day) s) (a .day) (level1 sb) (level2 sb) (a .action))
       (same .halted) (same .state)
 
   -- rule 2, after rule 1
@@ -117,10 +118,10 @@ module _ (n k : Node) (same : Alike n k) (ab sb : List ℕ) where
       (subst (λ (s : State). quorumOf s ≤ countedSeats (rowsOf sb) (s .seats)) (same .state) (p .quorum))
 
 -- a performed deliver's reply
-performs-done : (n : Node) (ab sb : List ℕ) → deliverOf n ab sb .answer ≡ Done → Performing n ab sb
+pub performs-done : (n : Node) (ab sb : List ℕ) → deliverOf n ab sb .answer ≡ Done → Performing n ab sb
 performs-done n ab sb d = performing n ab sb (deliverOf n ab sb) (deliver-comes-to n ab sb) d
 
-replied : (n : Node) (ab sb : List ℕ) (p : Performing n ab sb) → deliverOf n ab sb ≡ Deliver.performs n (p .announcement)
+pub replied : (n : Node) (ab sb : List ℕ) (p : Performing n ab sb) → deliverOf n ab sb ≡ Deliver.performs n (p .announcement)
 replied n ab sb p = performed n ab sb (p .announcement) (p .accepted) (p .quorum)
 
 pub rules-of-state : RulesOfState
@@ -144,20 +145,20 @@ own-seat-matters = record { well-formed = refl; own = (refl, refl); running = re
 -- ---- the sheet
 
 -- the announcement is read the same
-same-announcement : (n k : Node) (ab sb tb : List ℕ) (p : Performing n ab sb) (q : Performing k ab tb) → p .announcement ≡ q .announcement
-same-announcement n k ab sb tb p q = let r : Read (p .announcement) ≡ Read (q .announcement) = sym (p .accepted .read) ∙ q .accepted .read in cc
+pub same-announcement : (ab : List ℕ) {a b : Announcement} → readAnnouncement ab ≡ Read a → readAnnouncement ab ≡ Read b → a ≡ b
+same-announcement ab p q = let r = sym p ∙ q in cc
 
 pub same-quorum : SameQuorum
 same-quorum = record {
   reply = λ n ab sb tb d e.
       let p = performs-done n ab sb d in
       let q = performs-done n ab tb e in
-      replied n ab sb p ∙ ap (Deliver.performs n) (same-announcement n n ab sb tb p q) ∙ sym (replied n ab tb q);
+      replied n ab sb p ∙ ap (Deliver.performs n) (same-announcement ab (p .accepted .read) (q .accepted .read)) ∙ sym (replied n ab tb q);
   state = λ n k s ab sb tb d e.
       let p = performs-done n ab sb d in
       let q = performs-done k ab tb e in
       ap (λ (r : DeliverReply). r .node .state) (replied n ab sb p)
-      ∙ ap₂ perform s (same-announcement n k ab sb tb p q)
+      ∙ ap₂ perform s (same-announcement ab (p .accepted .read) (q .accepted .read))
       ∙ ap (λ (r : DeliverReply). r .node .state) (sym (replied k ab tb q));
 }
 
@@ -183,8 +184,7 @@ more-is-enough n ab sb tb d h =
       running = c .running;
       admitted = record {
         time = c .admitted .time;
-        action = action-among (n .state) (a .day) _ _ _ _ (h .mask1) (h .mask2) (a .action)
-            (c .admitted .action);
+        action = action-among (withoutLapsed (a .day) (n .state)) (a .day) _ _ _ _ (h .mask1) (h .mask2) (a .action) (c .admitted .action);
       };
     } in
     let shows : ShowsQuorum n tb = omega (arith, p .quorum, seats-among sb tb (h .rows) (n .state .seats)) in

@@ -11,6 +11,7 @@ pub mod Earned
 pub mod Unsteady
 pub mod Facts
 pub mod Notice
+pub mod Lapse
 pub mod Provenance
 pub mod Lives
 pub mod Removed

@@ -18,7 +18,7 @@ use Rattle.records.specs.declared.Announcement.{Announcement}
 use Rattle.records.specs.declared.Action.{Action}
 use Rattle.records.specs.declared.Action.the-variants.{Propose, Cancel, Presents, Certify, Minima, Remove, Rejoin, Grant, End}
 use Rattle.checkpoint.specs.Checkpoint.{readCheckpoint}
-use Rattle.actions.specs.Perform.{perform, act, withStanding, withLife, useProposal, effect}
+use Rattle.actions.specs.Perform.{perform, advance, withoutLapsed, act, withStanding, withLife, useProposal, effect}
 use Rattle.actions.specs.Claims.{WellFormed, Found}
 use Rattle.agreement.specs.History.{History}
 use Rattle.agreement.specs.Claims.{Park}
@@ -39,8 +39,12 @@ module _ (s : State) (a : Announcement) (i : ℕ) (w : WellFormed s) where
   abbrev here : Seat
   here = seatAt i (s .seats)
 
+  -- the state that the action sees
+  abbrev seen : State
+  seen = withoutLapsed (a .day) s
+
   -- the life after an action
-  life-after : (x : Action) → Found s (a .day) x → here .life ≤ seatAt i (act s (a .day) x .seats) .life
+  life-after : (x : Action) → Found seen (a .day) x → here .life ≤ seatAt i (act seen (a .day) x .seats) .life
   unfolding act withStanding withLife useProposal effect
   life-after (Propose x) f = omega arith
   life-after (Cancel c) f = omega arith
@@ -55,7 +59,7 @@ module _ (s : State) (a : Announcement) (i : ℕ) (w : WellFormed s) where
   life-after (End login) f = omega arith
 
   -- a retired seat after an action
-  retired-after : (x : Action) → Found s (a .day) x → here .standing ≡ retired → seatAt i (act s (a .day) x .seats) .standing ≡ retired
+  retired-after : (x : Action) → Found seen (a .day) x → here .standing ≡ retired → seatAt i (act seen (a .day) x .seats) .standing ≡ retired
   unfolding act withStanding withLife useProposal effect
   retired-after (Propose x) f r = r
   retired-after (Cancel c) f r = r
@@ -74,7 +78,7 @@ module _ (s : State) (a : Announcement) (i : ℕ) (w : WellFormed s) where
 module _ (first : List ℕ) (calls : History) (park : Park first calls) (i : ℕ) where
   -- one step
   step-rises : (s : State) (a : Announcement) → Step calls s a → Rises i s (perform s a)
-  unfolding perform
+  unfolding perform advance
   step-rises s a x =
       let w = step-well-formed first calls park s a x in
       let f = step-found first calls park s a x in
@@ -128,11 +132,11 @@ module _ (first : State) (calls : History) (i : ℕ) where
   later-stems {r} a x e (rejoined q b Q y f C) = rejoined q b Q y f (next r a C x e)
 
   stems : {s : State} → Reached first (Step calls) s → Stems first calls s i (seatAt i (s .seats) .life)
-  unfolding perform
+  unfolding perform advance
   stems (origin e) = at-first (ap (λ (z : State). seatAt i (z .seats) .life) (sym e))
   stems {s} (next r a R x e) =
       subst (λ (n : ℕ). Stems first calls s i n) (ap (λ (z : State). seatAt i (z .seats) .life) (sym e))
-      (at (stems R) (life-from r (a .day) i (a .action)))
+      (at (stems R) (life-from (withoutLapsed (a .day) r) (a .day) i (a .action)))
     where
       at : Stems first calls r i (seatAt i (r .seats) .life) → From r (a .day) i (a .action) (seatAt i (perform r a .seats) .life)
           → Stems first calls s i (seatAt i (perform r a .seats) .life)
@@ -157,9 +161,9 @@ unfolding act withLife effect useProposal
 rejoin-life s d i life e = ap (λ (x : Seat). x .life) (set-there (s .seats) i _ freeSeat (λ z. false≢true (rw z at e)))
 
 pub earlier-lives-never-count : EarlierLivesNeverCount
-unfolding perform
+unfolding perform advance
 earlier-lives-never-count first calls park r a i life x e u R row early =
     let f = rw e at (step-found first calls park r a x) in
-    let l : seatAt i (perform r a .seats) .life ≡ life = rw e (rejoin-life r (a .day) i life (f .0)) in
+    let l : seatAt i (perform r a .seats) .life ≡ life = rw e (rejoin-life (withoutLapsed (a .day) r) (a .day) i life (f .0)) in
     let b = rises first calls park i R .life in
     rw (ne-eqb (row .life) (seatAt i (u .seats) .life) (λ z. omega arith)) (and-false (eqb (row .seat) i))

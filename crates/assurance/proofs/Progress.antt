@@ -32,13 +32,14 @@ use Rattle.node.specs.WellFormed.{WellFormedNode}
 use Rattle.records.specs.Sheet.{sheetOf}
 use Rattle.records.specs.Claims.{RowInRange}
 use Rattle.lists.specs.Fold.{Distinct}
+use Rattle.actions.specs.Perform.{withoutLapsed}
 use Rattle.assurance.specs.Progress.{Votes, QuorumOfVotes, Performs, rowOf, Voter, VotesPerform}
 use Rattle.lists.proofs.Members.{to-map, of-map, at-least, below}
 use Rattle.records.proofs.SheetsBack.{sheets-read-back}
 
 -- No number from 3 to 14 applies.
 no-refusal : (n : Node) (sb : List ℕ) (a : Announcement) → heldSeat (n .state) (n .own) .standing ≢ retired → Admitted (n .state) a (level1 sb)
-    (level2 sb) → deliverRefusal (n .state) (n .own) a sb ≡ 0
+    (level2 sb) → deliverRefusal (withoutLapsed (a .day) (n .state)) (n .own) a sb ≡ 0
 unfolding deliverRefusal
 no-refusal n sb a r d = rw (ne-eqb _ _ r, d .time, d .action)
 

@@ -18,7 +18,7 @@ use Rattle.records.specs.declared.Action.{Action}
 use Rattle.records.specs.declared.Action.the-variants.{Propose, Cancel, Presents, Certify, Minima, Remove, Rejoin, Grant, End}
 use Rattle.records.specs.Actions.{kindOf}
 use Rattle.checkpoint.specs.Checkpoint.{readCheckpoint}
-use Rattle.actions.specs.Perform.{perform, act, withStanding, withLife, useProposal, effect}
+use Rattle.actions.specs.Perform.{perform, advance, act, withStanding, withLife, useProposal, effect}
 use Rattle.agreement.specs.History.{History}
 use Rattle.agreement.specs.Chain.{Step, Reached, origin, next}
 use Rattle.agreement.proofs.Steps.{always}
@@ -55,7 +55,7 @@ module _ (login : ℕ) (r : State) (a : Announcement) (listed : isListed login (
       same
 
   after : (x : Action) → a .action ≡ x → After login r a
-  unfolding perform act withStanding withLife useProposal effect
+  unfolding perform advance act withStanding withLife useProposal effect
   after (Propose x) e = other _ e (omega arith) (rw e refl)
   after (Cancel c) e = other _ e (omega arith) (rw e refl)
   after (Presents i flag) e = other _ e (omega arith) (rw e refl)

@@ -14,7 +14,7 @@ use Rattle.records.specs.declared.Announcement.{Announcement}
 use Rattle.records.specs.declared.Action.the-variants.{Remove}
 use Rattle.records.specs.declared.Query.{Query}
 use Rattle.checkpoint.specs.Checkpoint.{readCheckpoint}
-use Rattle.actions.specs.Perform.{perform, act, withStanding, useProposal, effect}
+use Rattle.actions.specs.Perform.{perform, advance, withoutLapsed, act, withStanding, useProposal, effect}
 use Rattle.node.specs.declared.Node.{Node}
 use Rattle.agreement.specs.History.{History, Moment}
 use Rattle.agreement.specs.Claims.{Opened, Park, EquivocationBound}
@@ -38,7 +38,7 @@ module _ (first : List ℕ) (calls : History) (park : Park first calls) (bound :
   -- a node of a cycle up to that of the remove is silent on such a day, and a later one is halted
   late : (s : State) (a : Announcement) → Reach s → Step calls s a → (u : Moment) (n : Node) (q : Query) → Reach (n .state) → Opened u n q
       → a .action ≡ Remove (n .own .seat) → ¬ (n .state .minima .silence < daysSince (q .day) (a .day))
-  unfolding perform
+  unfolding perform advance
   late s a S d u n q N o removes above = pick (decLe (n .state .cycle .0) (s .cycle .0))
     where
       i : ℕ
@@ -54,7 +54,7 @@ module _ (first : List ℕ) (calls : History) (park : Park first calls) (bound :
       pick (no h) =
           let R = through (readCheckpoint first .state) (Step calls) (one first calls park bound) (advances first calls park) a S d N (omega arith) in
           let f = rw removes at (step-found first calls park s a d) in
-          let there : seatAt i (perform s a .seats) .standing ≡ retired = rw removes (remove-retires s (a .day) i f) in
+          let there : seatAt i (perform s a .seats) .standing ≡ retired = rw removes (remove-retires (withoutLapsed (a .day) s) (a .day) i f) in
           let now = rises first calls park i R .stays-retired there in
           opens u n q o .running now
 

@@ -14,7 +14,7 @@ use Rattle.records.specs.declared.AnnouncementRead.{AnnouncementRead}
 use Rattle.records.specs.declared.AnnouncementRead.the-variants.{Read, Malformed}
 use Rattle.records.specs.Announcement.{readAnnouncement}
 use Rattle.records.specs.Sheet.{isSheet}
-use Rattle.actions.specs.Perform.{perform}
+use Rattle.actions.specs.Perform.{withoutLapsed, perform}
 use Rattle.actions.specs.Claims.{Advances}
 use Rattle.actions.proofs.Performed.{always-advances}
 use Rattle.node.specs.declared.Node.{Node}
@@ -178,7 +178,8 @@ no-vote n ab sb o = by (readAnnouncement ab)
     by Malformed = refl
     by (Read a) =
         cond-cases (λ (r : DeliverReply). isVoted (r .answer) ≡ false) (isSheet sb)
-        (λ _. cond-cases (λ (r : DeliverReply). isVoted (r .answer) ≡ false) (eqb (deliverRefusal (n .state) (n .own) a sb) 0)
+        (λ _. cond-cases (λ (r : DeliverReply). isVoted (r .answer) ≡ false)
+        (eqb (deliverRefusal (withoutLapsed (a .day) (n .state)) (n .own) a sb) 0)
         (λ _. cond-cases (λ (r : DeliverReply). isVoted (r .answer) ≡ false) (showsQuorum (n .state) sb) (λ _. refl)
         (λ _. at (canVote (n .state) (n .own))))
         (λ _. refl))

@@ -5,6 +5,7 @@ pub mod Progress
 pub mod Tight
 pub mod Earned
 pub mod Notice
+pub mod Lapse
 pub mod Provenance
 pub mod Lives
 pub mod Removed

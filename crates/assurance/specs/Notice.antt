@@ -23,7 +23,7 @@ use Rattle.agreement.specs.Chain.{Step, Reached}
 abbrev pub Listed : Proposal → State → Type 0
 Listed r s = List·Memᴰ r (s .proposals)
 
--- The proposal is a row of every state of the chain from s up to u: it is not cancelled and not used before.
+-- The proposal is a row of every state of the chain from s up to u: no action before drops it, as cancelled, used or lapsed.
 abbrev pub Stays : History → Proposal → State → State → Type 0
 Stays calls r s u = Reached s (λ q b. Step calls q b × Listed r q) u
 
@@ -35,15 +35,16 @@ pub data Proposed (first : State) (calls : History) (u : State) (r : Proposal) :
       → r .cycle ≡ s .cycle → r .day ≡ a .day → isMajority (s .trustees1) (level1 (x .sheet)) ≡ true
       → Stays calls r (perform s a) u → Proposed first calls u r
 
--- Each performed action that has a subject (certify, minima, remove) has a proposal of that subject, listed in its state and announced at least the
--- notice before, which stands in the first state or was proposed in the same chain and not cancelled and not used before; a majority of the level of
--- its kind signed it.
+-- Each performed action that has a subject (certify, minima, remove) uses up a proposal of that subject, listed in its state and announced from 7 to
+-- 60 days before, which stands in the first state or was proposed in the same chain and not cancelled, not used before and not lapsed; a majority of
+-- the level of its kind signed it. No later state of the chain lists that row: one propose, one action.
 pub record Noticed (first : State) (calls : History) (u : State) (b : Announcement) (x : Step calls u b) : Type 0 where
   pub row : Proposal
   pub listed : Listed row u
   pub notice : IsNotice (subjectOf (b .action)) (b .day) row
   pub proposed : Proposed first calls u row
   pub signed : Signed u (level1 (x .sheet)) (level2 (x .sheet)) (b .action)
+  pub once : (v : State) → Reached (perform u b) (Step calls) v → ¬ Listed row v
 
 abbrev pub AlwaysNoticed : Type 0
 AlwaysNoticed = (first : List ℕ) (calls : History) → Park first calls

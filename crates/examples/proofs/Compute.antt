@@ -12,7 +12,7 @@ use Rattle.state.specs.Seats.{presentSeats, quorum, quorumOf}
 use Rattle.state.specs.Trustees.{onesBelow, isMajority}
 use Rattle.state.specs.Subjects.{isCertify, isMinima, isRemove, isSubject}
 use Rattle.state.specs.WellFormed.{areWellFormedProposals, areWellFormedLogins, isWellFormed, blankState}
-use Rattle.tables.specs.Proposals.{addProposal, hasProposal, dropProposal, matureProposal}
+use Rattle.tables.specs.Proposals.{addProposal, hasProposal, dropProposal, dropLapsed, matureProposal}
 use Rattle.tables.specs.Logins.{findLogin, isListed, insertLogin, grantLogin, endLogin}
 use Rattle.page.specs.Line.{places}
 use Rattle.page.specs.Page.{linesOf, pageText}
@@ -22,7 +22,7 @@ use Rattle.records.specs.Sheet.{rowsOf, isSheet, counts, countedSeats, sheetOf}
 use Rattle.records.specs.StartQuery.{readStart, readQuery}
 use Rattle.checkpoint.specs.Checkpoint.{checkpointBytes, decodeCheckpoint, isCheckpoint, readCheckpoint}
 use Rattle.rules.specs.Rules.{timeRefusal, noticeRefusal, quorumRefusal, presentWithout, checkRefusal, actionRefusal}
-use Rattle.actions.specs.Perform.{withStanding, withLife, effect, useProposal, act, perform}
+use Rattle.actions.specs.Perform.{withStanding, withLife, effect, useProposal, act, advance, perform}
 use Rattle.verdicts.specs.Verdicts.{deliverRefusal, showsQuorum, voteRefusal, loginRefusal, queryRefusal, startRefusal}
 use Rattle.node.specs.Deliver.{deliverRead, deliverOf}
 use Rattle.node.specs.Query.{queryReply, queryOf}
@@ -35,12 +35,12 @@ unfolding any all count countFrom first risingFrom keep fill replaceFirst lowest
     digits padded monthDays nextDate dateOf dayText places linesOf pageText
     isInRange presentSeats quorum quorumOf onesBelow isMajority isCertify isMinima isRemove isSubject
     areWellFormedProposals areWellFormedLogins isWellFormed blankState
-    addProposal hasProposal dropProposal matureProposal findLogin isListed insertLogin grantLogin endLogin
+    addProposal hasProposal dropProposal dropLapsed matureProposal findLogin isListed insertLogin grantLogin endLogin
     announcing readPropose readCancel readPresents readCertify readMinima readRemove readRejoin readGrant readEnd readKind readAnnouncement
     announcementBytes rowsOf isSheet counts countedSeats sheetOf readStart readQuery
     checkpointBytes decodeCheckpoint isCheckpoint readCheckpoint
     timeRefusal noticeRefusal quorumRefusal presentWithout checkRefusal actionRefusal
-    withStanding withLife effect useProposal act perform isSameBytes
+    withStanding withLife effect useProposal act advance perform isSameBytes
     deliverRefusal showsQuorum voteRefusal loginRefusal queryRefusal startRefusal
     deliverRead deliverOf queryReply queryOf blankNode startRead startOf checkpointOf pageOf pageSlice
 calls-by-value = tt

@@ -2,5 +2,6 @@
 pub mod Compute
 pub mod Examples
 pub mod TableOfNo
+pub mod Lapse
 pub mod AccessPage
 pub mod Roster

@@ -2,5 +2,6 @@
 pub mod Records
 pub mod Examples
 pub mod TableOfNo
+pub mod Lapse
 pub mod AccessPage
 pub mod Roster

@@ -1,15 +1,16 @@
 -- "The table of no": the example of each row, from 1 to 22; and 23, which the access page adds.
 use mathlib.Core.Path.{_≡_}
 use mathlib.Core.List.{List, [], _∷_, _++_}
-use Prim.Native.Nat.{ℕ, zero, suc}
+use Prim.Native.Nat.{ℕ, zero, suc, _+_}
 use lib.ListN.{take, replicate}
+use Rattle.state.specs.declared.Proposal.{Proposal}
 use Rattle.state.specs.declared.State.{State}
 use Rattle.state.specs.Limits.{proposalRows, loginRows}
 use Rattle.state.specs.Time.{day, cycle, lastCycle}
 use Rattle.state.specs.Seats.{certified, setSeat}
 use Rattle.state.specs.Subjects.{removes}
 use Rattle.state.specs.Update.{withTime, withSeats, withProposals, withLogins}
-use Rattle.records.specs.declared.Action.the-variants.{Propose, Certify, Remove, Rejoin, End}
+use Rattle.records.specs.declared.Action.the-variants.{Propose, Cancel, Certify, Remove, Rejoin, End}
 use Rattle.records.specs.Sheet.{sheetOf}
 use Rattle.checkpoint.specs.Checkpoint.{checkpointBytes, readCheckpoint}
 use Rattle.node.specs.declared.Node.{Node}
@@ -52,11 +53,12 @@ unfoldable pub numbered : {A : Type 0} → (ℕ → A) → ℕ → List A
 numbered f zero = []
 numbered f (suc n) = numbered f n ++ (f (suc n) ∷ [])
 
--- 16 proposals, of the cycles 1 to 16
+-- 16 proposals, of the cycles 1 to 16 and the days 101 to 116
+abbrev pub proposalOf : ℕ → Proposal
+proposalOf c = record { cycle = cycle c; day = day (100 + c); subject = removes 0 }
+
 abbrev pub fullProposals : State
-fullProposals =
-    withTime (cycle 17) (day 100)
-    (withProposals (numbered (λ c. record { cycle = cycle c; day = day 100; subject = removes 0 }) proposalRows) firstState)
+fullProposals = withTime (cycle 17) (day 116) (withProposals (numbered proposalOf proposalRows) firstState)
 
 -- 64 logins, 1 to 64
 abbrev pub fullLogins : State
@@ -107,15 +109,22 @@ pub record TableOfNo : Type 0 where
   pub too-few-trustees : deliverOf (started threeTrustees) (announce 1 101 grant501) twoVotes .answer ≡ Deliver.Refused 8
   -- 9 "seat's standing unfit": "certify a present seat"
   pub seat-unfit : deliverOf (started firstState) (announce 1 101 (Certify 1 1)) twoVotes .answer ≡ Deliver.Refused 9
-  -- 10 "no ripe proposal": "remove after 6 days"
+  -- 10 "no ripe proposal": "remove after 6 days"; "ripe from 7 to 60 days": after 7 days, 60 and 61
   pub no-ripe-proposal : deliverOf (proposed firstState) (announce 2 107 (Remove 0)) twoVotes .answer ≡ Deliver.Refused 10
-  -- 11 "table full and the row is needed": "17th proposal, 65th login"
-  pub proposals-full : deliverOf (started fullProposals) (announce 17 101 (Propose (removes 0))) twoVotes .answer ≡ Deliver.Refused 11
+  pub first-ripe-day : deliverOf (proposed firstState) (announce 2 108 (Remove 0)) twoVotes .answer ≡ Deliver.Done
+  pub last-ripe-day : deliverOf (proposed firstState) (announce 2 161 (Remove 0)) twoVotes .answer ≡ Deliver.Done
+  pub lapsed-proposal : deliverOf (proposed firstState) (announce 2 162 (Remove 0)) twoVotes .answer ≡ Deliver.Refused 10
+  -- 11 "table full and the row is needed": "17th proposal, 65th login"; the 17th where the first proposal is 60 days old, and where it is 61
+  pub proposals-full : deliverOf (started fullProposals) (announce 17 116 (Propose (removes 0))) twoVotes .answer ≡ Deliver.Refused 11
+  pub none-lapsed : deliverOf (started fullProposals) (announce 17 161 (Propose (removes 0))) twoVotes .answer ≡ Deliver.Refused 11
+  pub one-lapsed : deliverOf (started fullProposals) (announce 17 162 (Propose (removes 0))) twoVotes .answer ≡ Deliver.Done
   pub logins-full : deliverOf (started fullLogins) (announce 1 101 grant501) twoVotes .answer ≡ Deliver.Refused 11
   -- 12 "kind 3, 5 or 6 would leave quorum above p": "remove with p=2, k=2"
   pub quorum-above : deliverOf (proposed (certifiedSeat 2)) (announce 2 108 (Remove 0)) twoVotes .answer ≡ Deliver.Refused 12
-  -- 13 "no such proposal or login": "end of 7 in an empty list"
+  -- 13 "no such proposal or login": "end of 7 in an empty list"; "Cancelling a lapsed one meets rule 13.": after 60 days and 61
   pub no-such-login : deliverOf (started firstState) (announce 1 101 (End 7)) twoVotes .answer ≡ Deliver.Refused 13
+  pub last-day-to-cancel : deliverOf (proposed firstState) (announce 2 161 (Cancel (cycle 1))) twoVotes .answer ≡ Deliver.Done
+  pub no-such-proposal : deliverOf (proposed firstState) (announce 2 162 (Cancel (cycle 1))) twoVotes .answer ≡ Deliver.Refused 13
   -- 14 "rejoin life not above the listed": "rejoin with life 1 over 1"
   pub life-not-above : deliverOf (started firstState) (announce 1 101 (Rejoin 1 1)) twoVotes .answer ≡ Deliver.Refused 14
   -- 15 "no quorum, and own seat not present or own life not listed": "certified node"

@@ -6,6 +6,7 @@ pub mod Every
 pub mod Firsts
 pub mod Members
 pub mod Tables
+pub mod TableMembers
 pub mod Fronts
 pub mod Count
 pub mod Loops

@@ -80,6 +80,10 @@ length-keep {A} p (r ∷ rs) =
     let k = length-keep p rs in
     cond-cases (λ (l : List A). length l ≤ suc (length rs)) (p r) {x = r ∷ keep p rs} {y = keep p rs} (λ e. omega arith) (λ e. omega arith)
 
+pub length-fill : {A : Type 0} (n : ℕ) (u : A) (rows : List A) → length rows ≤ n → length (fill n u rows) ≡ n
+unfolding fill
+length-fill n u rows h = simp (length-append, length-replicate) (omega arith)
+
 -- A table of n rows, each of which is as Ok says.
 pub record IsTable {A : Type 0} (used : A → Bool) (key : A → ℕ) (lo n : ℕ) (Ok : A → Type 0) (rows : List A) : Type 0 where
   pub size : length rows ≡ n
@@ -102,7 +106,7 @@ module _ {A : Type 0} {used : A → Bool} {key : A → ℕ} {lo n : ℕ} {Ok : A
     size =
         let k = length-keep p rows in
         let m = t .size in
-        simp (length-append, length-replicate) (omega arith);
+        length-fill n x (keep p rows) (omega arith);
     rising = rising-append-same (n - length (keep p rows)) (rising-keep p (t .rising)) u;
     each = all-fill n (all-keep p (t .each)) o;
   }

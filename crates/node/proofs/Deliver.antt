@@ -18,6 +18,7 @@ use Rattle.records.specs.Sheet.{isSheet}
 use Rattle.refusals.proofs.Chains.{passes, passes-rule, not-zero, bounds}
 use Rattle.rules.specs.Rules.{timeRefusal}
 use Rattle.rules.proofs.Passed.{time-within, action-within}
+use Rattle.actions.specs.Perform.{withoutLapsed}
 use Rattle.verdicts.specs.Own.{isHalted, canVote, votedOtherwise}
 use Rattle.verdicts.specs.Verdicts.{deliverRefusal, showsQuorum, voteRefusal}
 use Rattle.node.specs.declared.Node.{Node}
@@ -34,7 +35,11 @@ may-vote n e = let t = simp and-eq-true-iff at e in record { standing = eqb-true
 can-vote : (n : Node) → MayVote n → canVote (n .state) (n .own) ≡ true
 can-vote n m = rw (eq-eqb _ _ (m .standing), eq-eqb _ _ (m .life))
 
-pub within-rules : (n : Node) (sb : List ℕ) (a : Announcement) → deliverRefusal (n .state) (n .own) a sb ≤ 14
+-- the rules 3 to 14, on the state without the lapsed proposals
+abbrev pub ruled : Node → List ℕ → Announcement → ℕ
+ruled n sb a = deliverRefusal (withoutLapsed (a .day) (n .state)) (n .own) a sb
+
+pub within-rules : (n : Node) (sb : List ℕ) (a : Announcement) → ruled n sb a ≤ 14
 unfolding deliverRefusal
 within-rules n sb a =
     let time = time-within (n .state .cycle) (n .state .day) a in
@@ -43,7 +48,7 @@ within-rules n sb a =
 
 module _ (n : Node) (ab sb : List ℕ) where
   -- no number from 3 to 14 applies
-  accepted : (a : Announcement) → readAnnouncement ab ≡ Read a → isSheet sb ≡ true → deliverRefusal (n .state) (n .own) a sb ≡ 0 → Accepted n ab sb a
+  accepted : (a : Announcement) → readAnnouncement ab ≡ Read a → isSheet sb ≡ true → ruled n sb a ≡ 0 → Accepted n ab sb a
   unfolding deliverRefusal
   accepted a ra rs z =
       let p = passes-rule (isHalted (n .state) (n .own)) 3 _ refl z in
@@ -75,9 +80,9 @@ module _ (n : Node) (ab sb : List ℕ) where
   by-rules : (a : Announcement) → readAnnouncement ab ≡ Read a → isSheet sb ≡ true → Delivery n ab sb (deliverRead n ab a sb)
   unfolding deliverRead
   by-rules a ra rs =
-      cond-cases (Delivery n ab sb) (eqb (deliverRefusal (n .state) (n .own) a sb) 0)
+      cond-cases (Delivery n ab sb) (eqb (ruled n sb a) 0)
       (λ z. by-quorum a (accepted a ra rs (eqb-true _ _ z)))
-      (λ z. refuses (deliverRefusal (n .state) (n .own) a sb) (rule a ra rs (not-zero _ z) (within-rules n sb a) refl) refl)
+      (λ z. refuses (ruled n sb a) (rule a ra rs (not-zero _ z) (within-rules n sb a) refl) refl)
 
   by-records : (o : AnnouncementRead) → readAnnouncement ab ≡ o → Delivery n ab sb (deliverRecords n ab o sb)
   by-records Malformed e = refuses 1 (announcement-malformed refl e) refl

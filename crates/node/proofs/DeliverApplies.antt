@@ -9,6 +9,7 @@ use lib.Dec.{eqb, leb}
 use borrow.Author.Tests.{eqb-true, eqb-false, leb-true, ltb-true, not-true, not-false}
 use Rattle.lists.proofs.Tests.{or-false-of}
 use Rattle.refusals.proofs.Chains.{by-rule, by-part, refused, lowest-one}
+use Rattle.state.specs.declared.State.{State}
 use Rattle.state.specs.Time.{cycle, isBeforeDay, isBeforeCycle, isSameCycle, lastCycle}
 use Rattle.state.specs.Seats.{free, certified, present, seatAt, isActive}
 use Rattle.tables.specs.Proposals.{proposalsFull, hasProposal}
@@ -21,6 +22,7 @@ use Rattle.records.specs.Actions.{kindOf, levelOf, subjectOf}
 use Rattle.records.specs.Announcement.{readAnnouncement}
 use Rattle.records.specs.Sheet.{isSheet, level1, level2}
 use Rattle.rules.specs.Rules.{isSigned, lacksNotice, timeRefusal, noticeRefusal, quorumRefusal, checkRefusal, actionRefusal}
+use Rattle.actions.specs.Perform.{withoutLapsed}
 use Rattle.verdicts.specs.Own.{isHalted, heldSeat}
 use Rattle.verdicts.specs.Verdicts.{deliverRefusal}
 use Rattle.node.specs.declared.Node.{Node}
@@ -31,14 +33,18 @@ use Rattle.node.specs.Applies.{presents, back, certify, remove, rejoin, 
 use Rattle.node.specs.Applies.{no-1, no-2, no-3, no-4, no-5, no-6, no-7, no-8, no-9}
 use Rattle.node.specs.Applies.{no-10, no-11, no-12, no-13, no-14, no-15, no-16}
 use Rattle.rules.proofs.Notices.{notice-lacks}
+use Rattle.node.proofs.Deliver.{ruled}
 use Rattle.node.proofs.LeftSeats.{few-left, presents-leaves, back-leaves, minima-leaves, remove-leaves}
 
--- rule 8 applies; rule 10's number
+-- the state that the rules on proposals see; rule 8 applies; rule 10's number
+abbrev pub seen : Node → Announcement → State
+seen n a = withoutLapsed (a .day) (n .state)
+
 abbrev pub unsigned : Node → List ℕ → Announcement → Bool
 unsigned n sb a = not (isSigned (n .state) (levelOf (kindOf (a .action))) (level1 sb) (level2 sb))
 
 abbrev pub unnoticed : Node → Announcement → ℕ
-unnoticed n a = noticeRefusal (n .state .proposals) (a .day) (subjectOf (a .action))
+unnoticed n a = noticeRefusal (seen n a .proposals) (a .day) (subjectOf (a .action))
 
 module _ {n : Node} {ab sb : List ℕ} {a : Announcement} {k : ℕ} (ra : readAnnouncement ab ≡ Read a) (low : 1 ≤ k) where
   time-applies : timeRefusal (n .state .cycle) (n .state .day) a ≡ k → Applies (at n (deliver ab sb)) k
@@ -49,13 +55,13 @@ module _ {n : Node} {ab sb : List ℕ} {a : Announcement} {k : ℕ} (ra : readAn
       (λ _. by-rule (isSameCycle (n .state .cycle) lastCycle) 6 _ k refl (λ e t. rw e (no-6 (ap cycle (eqb-true _ _ t))))
       (λ _ e. let r = refused (isBeforeDay (a .day) (n .state .day)) 7 k low e in rw (r .0) (no-7 ra (ltb-true _ _ (r .1))))))
 
-  check-applies : (x : Action) → a .action ≡ x → checkRefusal (n .state) (a .day) x ≡ k → Applies (at n (deliver ab sb)) k
+  check-applies : (x : Action) → a .action ≡ x → checkRefusal (seen n a) (a .day) x ≡ k → Applies (at n (deliver ab sb)) k
   unfolding checkRefusal quorumRefusal
   check-applies (Kind.Propose x) ax e =
-      let r = refused (proposalsFull (n .state .proposals)) 11 k low e in
+      let r = refused (proposalsFull (seen n a .proposals)) 11 k low e in
       rw (r .0) (no-11 (propose ra ax (r .1)))
   check-applies (Kind.Cancel c) ax e =
-      let r = refused (not (hasProposal c (n .state .proposals))) 13 k low e in
+      let r = refused (not (hasProposal c (seen n a .proposals))) 13 k low e in
       rw (r .0) (no-13 (proposal ra ax (not-true _ (r .1))))
   check-applies (Kind.Presents i true) ax q =
       by-rule (not (eqb (seatAt i (n .state .seats) .standing) certified)) 9 _ k refl
@@ -96,20 +102,20 @@ module _ {n : Node} {ab sb : List ℕ} {a : Announcement} {k : ℕ} (ra : readAn
       let r = refused (not (isListed l (n .state .logins))) 13 k low e in
       rw (r .0) (no-13 (login ra ax (not-true _ (r .1))))
 
-  action-applies : isSheet sb ≡ true → actionRefusal (n .state) (a .day) (level1 sb) (level2 sb) (a .action) ≡ k → Applies (at n (deliver ab sb)) k
+  action-applies : isSheet sb ≡ true → actionRefusal (seen n a) (a .day) (level1 sb) (level2 sb) (a .action) ≡ k → Applies (at n (deliver ab sb)) k
   unfolding actionRefusal noticeRefusal
   action-applies rs =
       by-rule (unsigned n sb a) 8 _ k refl (λ e t. rw e (no-8 ra rs (not-true _ t)))
-      (λ _ e. by (lowest-one _ (checkRefusal (n .state) (a .day) (a .action)) k e))
+      (λ _ e. by (lowest-one _ (checkRefusal (seen n a) (a .day) (a .action)) k e))
     where
-      by : (unnoticed n a ≡ k) ⊎ (checkRefusal (n .state) (a .day) (a .action) ≡ k) → Applies (at n (deliver ab sb)) k
+      by : (unnoticed n a ≡ k) ⊎ (checkRefusal (seen n a) (a .day) (a .action) ≡ k) → Applies (at n (deliver ab sb)) k
       by (inl e) =
-          let r = refused (lacksNotice (n .state .proposals) (a .day) (subjectOf (a .action))) 10 k low e in
+          let r = refused (lacksNotice (seen n a .proposals) (a .day) (subjectOf (a .action))) 10 k low e in
           let u = notice-lacks (n .state .proposals) (a .day) (subjectOf (a .action)) (r .1) in
           rw (r .0) (no-10 ra (u .0) (u .1))
       by (inr e) = check-applies (a .action) refl e
 
-  rules-apply : isSheet sb ≡ true → deliverRefusal (n .state) (n .own) a sb ≡ k → Applies (at n (deliver ab sb)) k
+  rules-apply : isSheet sb ≡ true → ruled n sb a ≡ k → Applies (at n (deliver ab sb)) k
   unfolding deliverRefusal
   rules-apply rs =
       by-rule (isHalted (n .state) (n .own)) 3 _ k refl (λ e t. rw e (no-3 (eqb-true _ _ t)))

@@ -16,7 +16,7 @@ use Rattle.state.specs.declared.Seat.{Seat}
 use Rattle.state.specs.declared.State.{State}
 use Rattle.state.specs.Time.{isBeforeDay, isBeforeCycle, isSameCycle, lastCycle}
 use Rattle.state.specs.Seats.{free, certified, present, seatAt, isActive, presentSeats, quorumOf}
-use Rattle.tables.specs.Proposals.{hasProposal}
+use Rattle.tables.specs.Proposals.{hasProposal, dropLapsed}
 use Rattle.tables.specs.Logins.{isListed, lacksRow}
 use Rattle.records.specs.declared.Announcement.{Announcement}
 use Rattle.records.specs.declared.AnnouncementRead.{AnnouncementRead}
@@ -27,7 +27,7 @@ use Rattle.records.specs.Actions.{kindOf, subjectOf}
 use Rattle.records.specs.Announcement.{readAnnouncement}
 use Rattle.records.specs.Sheet.{isSheet, level1, level2, rowsOf, countedSeats}
 use Rattle.rules.specs.Rules.{timeRefusal, noticeRefusal, quorumRefusal, checkRefusal, actionRefusal}
-use Rattle.actions.specs.Perform.{perform}
+use Rattle.actions.specs.Perform.{withoutLapsed, perform}
 use Rattle.verdicts.specs.Own.{isHalted, heldSeat, canVote, votedOtherwise}
 use Rattle.verdicts.specs.Verdicts.{deliverRefusal, showsQuorum, voteRefusal}
 use Rattle.node.specs.declared.Node.{Node}
@@ -38,47 +38,47 @@ use Rattle.node.specs.Applies.{deliver, at, numberGiven, Tries, of-annou
 use Rattle.node.specs.Applies.{presents, back, certify, remove, rejoin, propose, grant, proposal, login, NoQuorum, Applies}
 use Rattle.node.specs.Applies.{no-1, no-2, no-3, no-4, no-5, no-6, no-7, no-8, no-9}
 use Rattle.node.specs.Applies.{no-10, no-11, no-12, no-13, no-14, no-15, no-16, no-17}
-use Rattle.node.proofs.DeliverApplies.{unsigned, unnoticed}
+use Rattle.node.proofs.DeliverApplies.{seen, unsigned, unnoticed}
 use Rattle.refusals.proofs.UpTo.{UpTo, by-itself, in-first, in-rest, in-left, in-right, reaches}
-use Rattle.node.proofs.Deliver.{may-vote, within-rules}
+use Rattle.node.proofs.Deliver.{may-vote, ruled, within-rules}
 use Rattle.rules.proofs.Passed.{time-within}
 use Rattle.rules.proofs.Notices.{lacks-notice}
 use Rattle.node.proofs.LeftSeats.{too-few, presents-leaves, back-leaves, minima-leaves, remove-leaves}
 
 -- the rules 3 to 7 and 8 to 14, and one of them that applies
 module _ (n : Node) (sb : List ℕ) (a : Announcement) {j : ℕ} where
-  in-time : 3 ≤ j → UpTo j (timeRefusal (n .state .cycle) (n .state .day) a) → UpTo j (deliverRefusal (n .state) (n .own) a sb)
+  in-time : 3 ≤ j → UpTo j (timeRefusal (n .state .cycle) (n .state .day) a) → UpTo j (ruled n sb a)
   unfolding deliverRefusal
   in-time l h = in-rest _ _ (rule-within (isHalted (n .state) (n .own)) 3 j l) (in-first _ _ h)
 
-  in-action : 7 ≤ j → UpTo j (actionRefusal (n .state) (a .day) (level1 sb) (level2 sb) (a .action))
-      → UpTo j (deliverRefusal (n .state) (n .own) a sb)
+  in-action : 7 ≤ j → UpTo j (actionRefusal (seen n a) (a .day) (level1 sb) (level2 sb) (a .action))
+      → UpTo j (ruled n sb a)
   unfolding deliverRefusal
   in-action l h =
       let t = time-within (n .state .cycle) (n .state .day) a in
       in-rest _ _ (rule-within (isHalted (n .state) (n .own)) 3 j (omega arith))
       (in-rest (timeRefusal (n .state .cycle) (n .state .day) a) _ (omega arith) h)
 
-  in-check : 8 ≤ j → UpTo j (checkRefusal (n .state) (a .day) (a .action)) → UpTo j (deliverRefusal (n .state) (n .own) a sb)
+  in-check : 8 ≤ j → UpTo j (checkRefusal (seen n a) (a .day) (a .action)) → UpTo j (ruled n sb a)
   unfolding actionRefusal
   in-check l h = in-action (omega arith) (in-rest _ _ (rule-within (unsigned n sb a) 8 j l) (in-right (unnoticed n a) _ h))
 
-  in-notice : 10 ≤ j → UpTo j (unnoticed n a) → UpTo j (deliverRefusal (n .state) (n .own) a sb)
+  in-notice : 10 ≤ j → UpTo j (unnoticed n a) → UpTo j (ruled n sb a)
   unfolding actionRefusal
   in-notice l h =
-      let check = checkRefusal (n .state) (a .day) (a .action) in
+      let check = checkRefusal (seen n a) (a .day) (a .action) in
       in-action (omega arith) (in-rest _ _ (rule-within (unsigned n sb a) 8 j (omega arith)) (in-left _ check h))
 
 module _ (n : Node) (ab sb : List ℕ) {j : ℕ} where
   -- A rule applies to a well-formed announcement: by the sheet.
-  by-rules : {a : Announcement} → readAnnouncement ab ≡ Read a → 2 ≤ j → (isSheet sb ≡ true → UpTo j (deliverRefusal (n .state) (n .own) a sb))
+  by-rules : {a : Announcement} → readAnnouncement ab ≡ Read a → 2 ≤ j → (isSheet sb ≡ true → UpTo j (ruled n sb a))
       → UpTo j (numberGiven (at n (deliver ab sb)))
   unfolding deliverOf deliverRead
   by-rules {a} ra l f =
       rw ra
       (cond-cases (λ (r : DeliverReply). UpTo j (deliverNumber (r .answer))) (isSheet sb)
-      (λ rs. cond-cases (λ (r : DeliverReply). UpTo j (deliverNumber (r .answer))) (eqb (deliverRefusal (n .state) (n .own) a sb) 0)
-      (λ z. let some = f rs .some in let none = eqb-true (deliverRefusal (n .state) (n .own) a sb) 0 z in absurd (omega arith))
+      (λ rs. cond-cases (λ (r : DeliverReply). UpTo j (deliverNumber (r .answer))) (eqb (ruled n sb a) 0)
+      (λ z. let some = f rs .some in let none = eqb-true (ruled n sb a) 0 z in absurd (omega arith))
       (λ z. f rs))
       (λ rs. omega arith))
 
@@ -87,12 +87,12 @@ module _ (n : Node) (ab sb : List ℕ) {j : ℕ} where
       → UpTo j (numberGiven (at n (deliver ab sb)))
   by-time {a} ra l h = by-rules ra (omega arith) (λ _. in-time n sb a l h)
 
-  by-check : {a : Announcement} {x : Action} → readAnnouncement ab ≡ Read a → a .action ≡ x → 8 ≤ j → UpTo j (checkRefusal (n .state) (a .day) x)
+  by-check : {a : Announcement} {x : Action} → readAnnouncement ab ≡ Read a → a .action ≡ x → 8 ≤ j → UpTo j (checkRefusal (seen n a) (a .day) x)
       → UpTo j (numberGiven (at n (deliver ab sb)))
   by-check {a} ra ax l h = by-rules ra (omega arith) (λ _. in-check n sb a l (rw ax h))
 
   -- A rule applies whatever is announced.
-  by-announcement : 2 ≤ j → ((a : Announcement) → UpTo j (deliverRefusal (n .state) (n .own) a sb)) → UpTo j (numberGiven (at n (deliver ab sb)))
+  by-announcement : 2 ≤ j → ((a : Announcement) → UpTo j (ruled n sb a)) → UpTo j (numberGiven (at n (deliver ab sb)))
   unfolding deliverOf
   by-announcement l f = by (readAnnouncement ab) refl
     where
@@ -105,7 +105,7 @@ module _ (n : Node) (ab sb : List ℕ) {j : ℕ} where
       → UpTo j (numberGiven (at n (deliver ab sb)))
   unfolding deliverOf deliverRead showsQuorum
   by-votes {a} ra q l h =
-      let k = deliverRefusal (n .state) (n .own) a sb in
+      let k = ruled n sb a in
       let high = within-rules n sb a in
       rw (ra, q .sheet, lt-leb (quorumOf (n .state)) (countedSeats (rowsOf sb) (n .state .seats)) (q .few))
       (cond-cases (λ (r : DeliverReply). UpTo j (deliverNumber (r .answer))) (eqb k 0)
@@ -131,25 +131,29 @@ not-kind (inr (inr e)) a b c = absurd (c e)
 
 -- Rule 12 applies: it gives its number, or 9 where the seat's standing is unfit.
 module _ (s : State) (a : Announcement) (few : presentSeats (perform s a .seats) < quorumOf (perform s a)) where
-  few-up-to : (x : Action) → a .action ≡ x → (kindOf x ≡ 3) ⊎ ((kindOf x ≡ 5) ⊎ (kindOf x ≡ 6)) → UpTo 12 (checkRefusal s (a .day) x)
+  -- the rules that are checked for an action
+  abbrev checked : Action → ℕ
+  checked x = checkRefusal (withoutLapsed (a .day) s) (a .day) x
+
+  few-up-to : (x : Action) → a .action ≡ x → (kindOf x ≡ 3) ⊎ ((kindOf x ≡ 5) ⊎ (kindOf x ≡ 6)) → UpTo 12 (checked x)
   unfolding checkRefusal quorumRefusal
   few-up-to (Kind.Propose x) ax kind = not-kind kind (omega arith) (omega arith) (omega arith)
   few-up-to (Kind.Cancel c) ax kind = not-kind kind (omega arith) (omega arith) (omega arith)
   few-up-to (Kind.Presents i true) ax kind = by (eqb (seatAt i (s .seats) .standing) certified) refl
     where
-      by : (b : Bool) → eqb (seatAt i (s .seats) .standing) certified ≡ b → UpTo 12 (checkRefusal s (a .day) (Kind.Presents i true))
+      by : (b : Bool) → eqb (seatAt i (s .seats) .standing) certified ≡ b → UpTo 12 (checked (Kind.Presents i true))
       by true e = let t = too-few (presents-leaves s a i ax (eqb-true _ _ e)) few in search reaches depth 12
       by false e = let t : not (eqb (seatAt i (s .seats) .standing) certified) ≡ true = ap not e in search reaches depth 12
   few-up-to (Kind.Presents i false) ax kind = by (eqb (seatAt i (s .seats) .standing) present) refl
     where
-      by : (b : Bool) → eqb (seatAt i (s .seats) .standing) present ≡ b → UpTo 12 (checkRefusal s (a .day) (Kind.Presents i false))
+      by : (b : Bool) → eqb (seatAt i (s .seats) .standing) present ≡ b → UpTo 12 (checked (Kind.Presents i false))
       by true e = let t = too-few (back-leaves s a i ax (eqb-true _ _ e)) few in search reaches depth 12
       by false e = let t : not (eqb (seatAt i (s .seats) .standing) present) ≡ true = ap not e in search reaches depth 12
   few-up-to (Kind.Certify i life) ax kind = not-kind kind (omega arith) (omega arith) (omega arith)
   few-up-to (Kind.Minima x) ax kind = let t = too-few (minima-leaves s a x ax) few in search reaches depth 12
   few-up-to (Kind.Remove i) ax kind = by (isActive (seatAt i (s .seats))) refl
     where
-      by : (b : Bool) → isActive (seatAt i (s .seats)) ≡ b → UpTo 12 (checkRefusal s (a .day) (Kind.Remove i))
+      by : (b : Bool) → isActive (seatAt i (s .seats)) ≡ b → UpTo 12 (checked (Kind.Remove i))
       by true e = let t = too-few (remove-leaves s a i ax e) few in search reaches depth 12
       by false e = let t : not (isActive (seatAt i (s .seats))) ≡ true = ap not e in search reaches depth 12
   few-up-to (Kind.Rejoin i life) ax kind = not-kind kind (omega arith) (omega arith) (omega arith)
@@ -220,8 +224,8 @@ deliver-up-to {n} {ab} {sb} t (no-11 (grant {x = x} ra ax full h)) =
     by-check n ab sb ra ax (omega arith) (search reaches depth 12)
 deliver-up-to {n} {ab} {sb} t (no-12 {a = a} ra kind h) =
     by-check n ab sb ra refl (omega arith) (few-up-to (n .state) a h (a .action) refl kind)
-deliver-up-to {n} {ab} {sb} t (no-13 (proposal {c = c} ra ax h)) =
-    let e : not (hasProposal c (n .state .proposals)) ≡ true = ap not h in
+deliver-up-to {n} {ab} {sb} t (no-13 (proposal {a = a} {c = c} ra ax h)) =
+    let e : not (hasProposal c (dropLapsed (a .day) (n .state .proposals))) ≡ true = ap not h in
     by-check n ab sb ra ax (omega arith) (search reaches depth 12)
 deliver-up-to {n} {ab} {sb} t (no-13 (login {l = l} ra ax h)) =
     let e : not (isListed l (n .state .logins)) ≡ true = ap not h in

@@ -15,7 +15,7 @@ use Rattle.state.proofs.SeatLaws.{present-set, active-not-free}
 use Rattle.records.specs.declared.Announcement.{Announcement}
 use Rattle.records.specs.declared.Action.the-variants as Kind
 use Rattle.rules.specs.Rules.{presentWithout}
-use Rattle.actions.specs.Perform.{withStanding, effect, useProposal, act, perform}
+use Rattle.actions.specs.Perform.{withStanding, effect, useProposal, act, advance, perform}
 
 -- the announcement leaves p present seats, and the quorum of p, m and k
 pub record Leaves (s : State) (a : Announcement) (p m k : ℕ) : Type 0 where
@@ -47,7 +47,7 @@ module _ (s : State) (a : Announcement) where
 
   pub presents-leaves : (i : ℕ) → a .action ≡ Kind.Presents i true → seatAt i (s .seats) .standing ≡ certified
       → Leaves s a (presentSeats (s .seats) + 1) (s .minima .margin) (s .minima .least)
-  unfolding perform act effect useProposal withStanding quorumOf
+  unfolding perform advance act effect useProposal withStanding quorumOf
   presents-leaves i e st =
       let q = rw st at (restanded i present (λ z. omega arith)) in
       let p : presentWith s i present ≡ presentSeats (s .seats) + 1 = omega arith in
@@ -55,19 +55,19 @@ module _ (s : State) (a : Announcement) where
 
   pub back-leaves : (i : ℕ) → a .action ≡ Kind.Presents i false → seatAt i (s .seats) .standing ≡ present
       → Leaves s a (presentSeats (s .seats) - 1) (s .minima .margin) (s .minima .least)
-  unfolding perform act effect useProposal withStanding quorumOf
+  unfolding perform advance act effect useProposal withStanding quorumOf
   back-leaves i e st =
       let q = rw st at (restanded i certified (λ z. omega arith)) in
       let p : presentWith s i certified ≡ presentSeats (s .seats) - 1 = omega arith in
       record { present-seats = rw e p; quorum-left = rw (e, p) }
 
   pub minima-leaves : (x : Minima) → a .action ≡ Kind.Minima x → Leaves s a (presentSeats (s .seats)) (x .margin) (x .least)
-  unfolding perform act effect useProposal quorumOf
+  unfolding perform advance act effect useProposal quorumOf
   minima-leaves x e = record { present-seats = rw e; quorum-left = rw e }
 
   pub remove-leaves : (i : ℕ) → a .action ≡ Kind.Remove i → isActive (seatAt i (s .seats)) ≡ true
       → Leaves s a (presentWithout (seatAt i (s .seats)) (presentSeats (s .seats))) (s .minima .margin) (s .minima .least)
-  unfolding perform act effect useProposal withStanding quorumOf presentWithout
+  unfolding perform advance act effect useProposal withStanding quorumOf presentWithout
   remove-leaves i e active =
       let seat = seatAt i (s .seats) in
       let q = restanded i retired (active-not-free seat active) in

@@ -4,6 +4,7 @@ use mathlib.Core.Logic.{_≢_, _⊎_, inl, inr}
 use mathlib.Core.Bool.{Bool, true, false}
 use mathlib.Core.List.{List}
 use Prim.Native.Nat.{ℕ, _≤_}
+use native.Mathlib.Decide.{decLe}
 use native.Mathlib.Omega.{arith}
 use lib.Dec.{leb}
 use lib.ListN.{length}
@@ -20,7 +21,7 @@ use Rattle.node.specs.Page.{pageFits, pageOf}
 use Rattle.node.specs.Claims as Comes
 use Rattle.node.specs.Claims.{Starting, Delivery, Asking}
 use Rattle.node.specs.Applies.{deliver, query, checkpoint, page, Asked, start, at, numberGiven, Tries}
-use Rattle.node.specs.Applies.{Applies, no-3, no-6, no-17, no-22, no-23, GivesLowest, NoneApplies}
+use Rattle.node.specs.Applies.{Applies, no-3, no-6, no-17, no-22, no-23, GivesLowest, LowestIsGiven, NoneApplies}
 use Rattle.refusals.proofs.UpTo.{UpTo}
 use Rattle.node.proofs.Start.{start-comes-to}
 use Rattle.node.proofs.Deliver.{deliver-comes-to}
@@ -124,6 +125,17 @@ pub gives-lowest : GivesLowest
 gives-lowest x k q z v =
     let p = holds x k q z v in
     record { tried = p .0; applies = p .1; none-lower = λ j t l h. (let u = up-to x j t h in omega arith) }
+
+pub lowest-is-given : LowestIsGiven
+lowest-is-given x k l = by (decLe k (numberGiven x))
+  where
+    by : Dec (k ≤ numberGiven x) → numberGiven x ≡ k
+    by (yes h) = let u = up-to x k (l .tried) (l .applies) in omega arith
+    by (no h) =
+        let u = up-to x k (l .tried) (l .applies) in
+        let most = tries-up-to x k (l .tried) in
+        let p = holds x (numberGiven x) refl (omega arith) (omega arith) in
+        absurd (l .none-lower (numberGiven x) (p .0) (omega arith) (p .1))
 
 pub none-applies : NoneApplies
 none-applies x (inl q) j t h = let u = up-to x j t h in omega arith

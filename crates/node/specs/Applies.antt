@@ -14,7 +14,7 @@ use Rattle.state.specs.declared.Proposal.{Proposal}
 use Rattle.state.specs.Time.{laterDay, daysSince, lastCycle, DayBefore, CycleBefore}
 use Rattle.state.specs.Seats.{free, certified, present, retired, seatAt, presentSeats, quorumOf}
 use Rattle.state.specs.Rows.{holdsRight}
-use Rattle.tables.specs.Proposals.{proposalsFull, hasProposal}
+use Rattle.tables.specs.Proposals.{proposalsFull, hasProposal, dropLapsed}
 use Rattle.tables.specs.Logins.{loginsFull, isListed, findLogin}
 use Rattle.tables.specs.Claims.{IsNotice}
 use Rattle.records.specs.declared.Announcement.{Announcement}
@@ -119,17 +119,17 @@ pub data Unfit : Asked → Type 0 where
   starting : {cb sb : List ℕ} {y : Start} {seat : Seat} → Starts cb sb y seat
       → (seat .standing ≡ free) ⊎ (seat .standing ≡ retired) → Unfit (start cb sb)
 
--- 11: the last row of the table is used; a grant needs no row where it replaces the login
+-- 11: the last row of the table is used, once the lapsed proposals are dropped; a grant needs no row where it replaces the login
 pub data Full : Asked → Type 0 where
   propose : {n : Node} {ab sb : List ℕ} {a : Announcement} {x : Subject} → Announces ab a → a .action ≡ Propose x
-      → proposalsFull (n .state .proposals) ≡ true → Full (at n (deliver ab sb))
+      → proposalsFull (dropLapsed (a .day) (n .state .proposals)) ≡ true → Full (at n (deliver ab sb))
   grant : {n : Node} {ab sb : List ℕ} {a : Announcement} {x : Login} → Announces ab a → a .action ≡ Grant x
       → loginsFull (n .state .logins) ≡ true → isListed (x .login) (n .state .logins) ≡ false → Full (at n (deliver ab sb))
 
--- 13
+-- 13: "Cancelling a lapsed one meets rule 13."
 pub data Missing : Asked → Type 0 where
   proposal : {n : Node} {ab sb : List ℕ} {a : Announcement} {c : Cycle} → Announces ab a → a .action ≡ Cancel c
-      → hasProposal c (n .state .proposals) ≡ false → Missing (at n (deliver ab sb))
+      → hasProposal c (dropLapsed (a .day) (n .state .proposals)) ≡ false → Missing (at n (deliver ab sb))
   login : {n : Node} {ab sb : List ℕ} {a : Announcement} {l : ℕ} → Announces ab a → a .action ≡ End l
       → isListed l (n .state .logins) ≡ false → Missing (at n (deliver ab sb))
 
@@ -172,7 +172,7 @@ pub data Applies : Asked → ℕ → Type 0 where
       → isSigned (n .state) (levelOf (kindOf (a .action))) (level1 sb) (level2 sb) ≡ false → Applies (at n (deliver ab sb)) 8
   -- 9 "seat's standing unfit (kinds 3, 4, 6, 7; start: free or retired)"
   no-9 : {x : Asked} → Unfit x → Applies x 9
-  -- 10 "no ripe proposal", for the kinds that have a subject, 4, 5 and 6
+  -- 10 "no ripe proposal", for the kinds that have a subject, 4, 5 and 6: none "from 7 to 60 days"
   no-10 : {n : Node} {ab sb : List ℕ} {a : Announcement} → Announces ab a → subjectOf (a .action) .kind ≢ 0
       → ((r : Proposal) → List·Memᴰ r (n .state .proposals) → ¬ IsNotice (subjectOf (a .action)) (a .day) r) → Applies (at n (deliver ab sb)) 10
   -- 11 "table full and the row is needed"
@@ -220,6 +220,10 @@ pub record IsLowest (x : Asked) (k : ℕ) : Type 0 where
 -- A number that is given is the lowest that applies.
 abbrev pub GivesLowest : Type 0
 GivesLowest = (x : Asked) (k : ℕ) → numberGiven x ≡ k → k ≢ 0 → k ≢ 128 → IsLowest x k
+
+-- The lowest that applies is given.
+abbrev pub LowestIsGiven : Type 0
+LowestIsGiven = (x : Asked) (k : ℕ) → IsLowest x k → numberGiven x ≡ k
 
 -- Where none is given, none applies.
 abbrev pub NoneApplies : Type 0

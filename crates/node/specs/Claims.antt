@@ -18,7 +18,7 @@ use Rattle.records.specs.Announcement.{readAnnouncement}
 use Rattle.records.specs.Sheet.{isSheet, level1, level2, rowsOf, countedSeats}
 use Rattle.records.specs.StartQuery.{readQuery, readStart}
 use Rattle.checkpoint.specs.Checkpoint.{isCheckpoint, readCheckpoint}
-use Rattle.actions.specs.Perform.{perform}
+use Rattle.actions.specs.Perform.{withoutLapsed, perform}
 use Rattle.actions.specs.Claims.{Admitted}
 use Rattle.verdicts.specs.Verdicts.{deliverRefusal}
 use Rattle.node.specs.declared.Node.{Node}
@@ -55,8 +55,8 @@ ShowsQuorum n sb = quorumOf (n .state) ≤ countedSeats (rowsOf sb) (n .state .s
 pub data DeliverRefused (n : Node) (ab sb : List ℕ) (k : ℕ) : Type 0 where
   announcement-malformed : k ≡ 1 → readAnnouncement ab ≡ A.Malformed → DeliverRefused n ab sb k
   sheet-malformed : (a : Announcement) → k ≡ 2 → readAnnouncement ab ≡ A.Read a → isSheet sb ≡ false → DeliverRefused n ab sb k
-  rule : (a : Announcement) → readAnnouncement ab ≡ A.Read a → isSheet sb ≡ true → 1 ≤ k → k ≤ 14 → deliverRefusal (n .state) (n .own) a sb ≡ k
-      → DeliverRefused n ab sb k
+  rule : (a : Announcement) → readAnnouncement ab ≡ A.Read a → isSheet sb ≡ true → 1 ≤ k → k ≤ 14
+      → deliverRefusal (withoutLapsed (a .day) (n .state)) (n .own) a sb ≡ k → DeliverRefused n ab sb k
   may-not-vote : (a : Announcement) → k ≡ 15 → Accepted n ab sb a → ¬ ShowsQuorum n sb → ¬ MayVote n → DeliverRefused n ab sb k
   voted-otherwise : (a : Announcement) → k ≡ 16 → Accepted n ab sb a → ¬ ShowsQuorum n sb → n .own .voted ≡ true → n .own .vote ≢ ab
       → DeliverRefused n ab sb k

@@ -4,12 +4,14 @@ use Prim.Native.Nat.{ℕ}
 use mathlib.Core.List.{List}
 use mathlib.Core.Bool.{cond}
 use lib.Dec.{eqb}
+use Rattle.state.specs.declared.State.{State}
 use Rattle.records.specs.declared.Announcement.{Announcement}
 use Rattle.records.specs.declared.AnnouncementRead.{AnnouncementRead}
 use Rattle.records.specs.declared.AnnouncementRead.the-variants.{Read, Malformed}
 use Rattle.records.specs.Announcement.{readAnnouncement}
 use Rattle.records.specs.Sheet.{isSheet}
-use Rattle.actions.specs.Perform.{perform}
+use Rattle.actions.specs.Perform.{withoutLapsed, perform}
+use Rattle.verdicts.specs.declared.Own.{Own}
 use Rattle.verdicts.specs.Own.{ownAfresh, withVote}
 use Rattle.verdicts.specs.Verdicts.{deliverRefusal, showsQuorum, voteRefusal}
 use Rattle.node.specs.declared.Node.{Node}
@@ -19,8 +21,12 @@ use Rattle.node.specs.declared.DeliverAnswer.the-variants.{Done, Voted, 
 abbrev pub refusesDelivery : Node → ℕ → DeliverReply
 refusesDelivery n k = record { node = n; answer = Refused k }
 
+-- done, with this state: "vote cleared, misses 0"
+abbrev pub leaves : State → Own → DeliverReply
+leaves s o = record { node = record { state = s; own = ownAfresh (o .seat) (o .life) }; answer = Done }
+
 abbrev pub performs : Node → Announcement → DeliverReply
-performs n a = record { node = record { state = perform (n .state) a; own = ownAfresh (n .own .seat) (n .own .life) }; answer = Done }
+performs n a = leaves (perform (n .state) a) (n .own)
 
 abbrev pub votes : Node → List ℕ → DeliverReply
 votes n ab = record { node = record { state = n .state; own = withVote ab (n .own) }; answer = Voted }
@@ -29,10 +35,11 @@ votes n ab = record { node = record { state = n .state; own = withVote ab (n .ow
 abbrev pub withoutQuorum : Node → List ℕ → ℕ → DeliverReply
 withoutQuorum n ab k = cond (eqb k 0) (votes n ab) (refusesDelivery n k)
 
--- a well-formed announcement a, whose bytes are ab, with the sheet sb
+-- a well-formed announcement a, whose bytes are ab, with the sheet sb. "Lapsed rows, judged by the announced day, are dropped before rules 9 to 14
+-- are tried": the rules before don't look at proposals. "a refusal drops none", and a vote neither.
 unfoldable pub deliverRead : Node → List ℕ → Announcement → List ℕ → DeliverReply
 deliverRead n ab a sb =
-    let k = deliverRefusal (n .state) (n .own) a sb in
+    let k = deliverRefusal (withoutLapsed (a .day) (n .state)) (n .own) a sb in
     cond (eqb k 0)
     (cond (showsQuorum (n .state) sb) (performs n a) (withoutQuorum n ab (voteRefusal (n .state) (n .own) ab)))
     (refusesDelivery n k)

@@ -5,7 +5,8 @@ ghost use Prim.Native.Nat.{_<_};
 ghost use lib.ListN.{length};
 ghost use Rattle.records.specs.Layout.{announcementSize};
 ghost use Rattle.records.specs.Sheet.{isSheet};
-ghost use Rattle.node.specs.Deliver.{refusesDelivery, performs, votes, deliverRead, deliverOf};
+ghost use Rattle.actions.specs.Perform.{advance};
+ghost use Rattle.node.specs.Deliver.{refusesDelivery, leaves, votes, deliverRead, deliverOf};
 ghost use Rattle.verdicts.specs.Own.{mostMisses};
 ghost use Rattle.node.specs.Query.{withMissCount, addsMiss, queryReply, queryOf};
 ghost use Rattle.node.specs.Start.{blankNode, refusesStart, startRead, startOf};
@@ -22,7 +23,8 @@ use crate::QueryAnswer;
 use crate::QueryReply;
 use crate::StartAnswer;
 use crate::StartReply;
-use actions::perform;
+use actions::advance;
+use actions::without_lapsed;
 use binary::size;
 use checkpoint::is_checkpoint;
 use checkpoint::layout::CHECKPOINT_SIZE;
@@ -43,6 +45,7 @@ use state::Day;
 use state::State;
 use state::blank_state;
 use tables::logins::count_logins;
+use verdicts::Own;
 use verdicts::deliver_refusal;
 use verdicts::own_afresh;
 use verdicts::query_refusal;
@@ -61,12 +64,11 @@ fn refuse_delivery(n: Node, number: u8) -> DeliverReply
     }
 }
 
-fn perform_delivery(n: Node, a: Announcement) -> DeliverReply
-    ensures { λ r. ⌜ r ≡ performs n a ⌝ }
+// The announcement performed, on the state that its rules and its action see.
+fn perform_delivery(seen: State, own: Own, a: Announcement) -> DeliverReply
+    ensures { λ r. ⌜ r ≡ leaves (advance seen a) own ⌝ }
 {
-    let state = n.state;
-    let own = n.own;
-    let next = perform(state, a);
+    let next = advance(seen, a);
     let afresh = own_afresh(own.seat, own.life);
     DeliverReply {
         node: Node {
@@ -127,19 +129,20 @@ fn start_read(s: State, x: Start) -> StartReply
     }
 }
 
-// A well-formed announcement with a well-formed sheet.
+// A well-formed announcement with a well-formed sheet. Only here are lapsed proposals dropped: a refusal and a vote hand back the node as it was.
 fn deliver_read(n: Node, announcement: &[u8], a: Announcement, sheet: &[u8]) -> DeliverReply
     requires { ⌜ (length (now announcement) ≡ announcementSize) × (isSheet (now sheet) ≡ true) ⌝ }
     ensures { λ r. ⌜ r ≡ deliverRead n (now (announcement .entry)) a (now (sheet .entry)) ⌝ }
 {
     let state = n.state;
     let own = n.own;
-    let k = deliver_refusal(state, own, a, sheet);
+    let seen = without_lapsed(state, a.day);
+    let k = deliver_refusal(seen, own, a, sheet);
     if k != 0 {
         return refuse_delivery(n, k);
     }
     if shows_quorum(state, sheet) {
-        return perform_delivery(n, a);
+        return perform_delivery(seen, own, a);
     }
     let v = vote_refusal(state, own, announcement);
     if v != 0 {

@@ -12,7 +12,7 @@ use Rattle.state.specs.Time.{cycle, isBeforeCycle, isSameCycle, lastCycle}
 use Rattle.state.specs.WellFormed.{isWellFormed}
 use Rattle.checkpoint.specs.Checkpoint.{decodeCheckpoint, isCheckpoint, readCheckpoint}
 use Rattle.records.specs.declared.Announcement.{Announcement}
-use Rattle.actions.specs.Perform.{perform}
+use Rattle.actions.specs.Perform.{advance, perform}
 use Rattle.node.specs.declared.Node.{Node}
 use Rattle.node.specs.declared.StartAnswer.{StartAnswer}
 use Rattle.node.specs.declared.StartAnswer.the-variants as S
@@ -49,7 +49,7 @@ unfolding readCheckpoint
 checkpoint-held cb h = rw h (decoded-held cb h)
 
 performed-held : (n : Node) (a : Announcement) → isNone n ≡ false → isSameCycle (perform (n .state) a .cycle) (cycle 0) ≡ false
-unfolding perform
+unfolding perform advance
 performed-held n a h =
     cond-cases (λ (c : Cycle). isSameCycle c (cycle 0) ≡ false) (isBeforeCycle (n .state .cycle) lastCycle)
     (λ _. ne-eqb (n .state .cycle .0 + 1) 0 (λ e. absurd (omega arith)))

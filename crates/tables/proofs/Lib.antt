@@ -3,3 +3,4 @@ pub mod LoginTable
 pub mod Grants
 pub mod FoundLogins
 pub mod TableFacts
+pub mod Lapse

@@ -1,24 +1,57 @@
--- What a mature proposal and an unused row tell.
+-- What a mature proposal, a lapsed one and an unused row tell.
 use mathlib.Core.Path.{_≡_}
+use mathlib.Core.Logic.{_≢_}
 use mathlib.Core.Bool.{true, false}
+use mathlib.Core.List.{List, List·Memᴰ}
 use Prim.Native.Nat.{_≤_}
-use lib.ListN.{replicate}
+use lib.ListN.{length, replicate}
+use Rattle.lists.specs.Fold.{any}
+use Rattle.lists.specs.Table.{risingFrom}
 use Rattle.state.specs.declared.Day.{Day}
 use Rattle.state.specs.declared.Subject.{Subject}
 use Rattle.state.specs.declared.Proposal.{Proposal}
 use Rattle.state.specs.Limits.{proposalRows, loginRows}
 use Rattle.state.specs.Time.{daysSince}
-use Rattle.state.specs.Rows.{noProposal, noLogin}
-use Rattle.tables.specs.Proposals.{proposalsFull, noticeDays, isMature}
+use Rattle.state.specs.Rows.{noProposal, isProposal, noLogin}
+use Rattle.state.specs.WellFormed.{cycleOf}
+use Rattle.tables.specs.Proposals.{proposalsFull, hasProposal, noticeDays, validDays, isLapsed, dropLapsed, isMature}
 use Rattle.tables.specs.Logins.{loginsFull}
 
--- A mature proposal is of that subject, and the announced day comes at least the notice after its own.
+-- A notice of a subject: a proposal of it, from 7 to 60 days before the announced day.
 pub record IsNotice (x : Subject) (announced : Day) (r : Proposal) : Type 0 where
   pub same : r .subject ≡ x
   pub days : noticeDays ≤ daysSince announced (r .day)
+  pub valid : daysSince announced (r .day) ≤ validDays
+
+-- Where the lapsed rows are dropped, the mature ones of a subject are its notices: those, and no others.
+pub record Matures (x : Subject) (d : Day) (rows : List Proposal) (r : Proposal) : Type 0 where
+  pub notice : List·Memᴰ r (dropLapsed d rows) → isMature x d r ≡ true → List·Memᴰ r rows × IsNotice x d r
+  pub mature : List·Memᴰ r rows → IsNotice x d r → List·Memᴰ r (dropLapsed d rows) × (isMature x d r ≡ true)
 
 abbrev pub MatureIsNotice : Type 0
-MatureIsNotice = (x : Subject) (d : Day) (r : Proposal) → isMature x d r ≡ true → IsNotice x d r
+MatureIsNotice = (x : Subject) → x .kind ≢ 0 → (d : Day) (rows : List Proposal) (r : Proposal) → Matures x d rows r
+
+-- Of the used rows those are left that have not lapsed.
+pub record LeftAfter (d : Day) (rows : List Proposal) (r : Proposal) : Type 0 where
+  pub was : List·Memᴰ r (dropLapsed d rows) → List·Memᴰ r rows × (isLapsed d r ≡ false)
+  pub stays : List·Memᴰ r rows → isLapsed d r ≡ false → List·Memᴰ r (dropLapsed d rows)
+
+abbrev pub OnlyLapsedGo : Type 0
+OnlyLapsedGo = (d : Day) (rows : List Proposal) (r : Proposal) → isProposal r ≡ true → LeftAfter d rows r
+
+-- Where none has lapsed, the table stays as it is.
+abbrev pub NoneLapsed : Type 0
+NoneLapsed = (d : Day) (rows : List Proposal) → length rows ≡ proposalRows → any (isLapsed d) rows ≡ false → dropLapsed d rows ≡ rows
+
+-- Where one has lapsed, there is room.
+abbrev pub LapsedMakesRoom : Type 0
+LapsedMakesRoom = (d : Day) (rows : List Proposal) → length rows ≡ proposalRows
+    → (r : Proposal) → List·Memᴰ r rows → isLapsed d r ≡ true → proposalsFull (dropLapsed d rows) ≡ false
+
+-- In a table that rises by cycle, a lapsed proposal's cycle has none afterwards.
+abbrev pub LapsedIsGone : Type 0
+LapsedIsGone = (d : Day) (rows : List Proposal) → risingFrom isProposal cycleOf 0 rows ≡ true
+    → (r : Proposal) → List·Memᴰ r rows → isLapsed d r ≡ true → hasProposal (r .cycle) (dropLapsed d rows) ≡ false
 
 -- An empty table is not full.
 abbrev pub EmptyIsNotFull : Type 0

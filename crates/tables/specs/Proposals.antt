@@ -2,7 +2,7 @@
 use Prim.Native.Nat.{ℕ, _-_}
 use mathlib.Core.List.{List}
 use mathlib.Core.Bool.{Bool, not, _&&_}
-use lib.Dec.{eqb, leb}
+use lib.Dec.{eqb, ltb, leb}
 use lib.ListN.{getD}
 use Rattle.lists.specs.Fold.{any, first}
 use Rattle.lists.specs.Table.{keep, fill, replaceFirst}
@@ -32,11 +32,22 @@ hasProposal c rows = any (isOfCycle c) rows
 unfoldable pub dropProposal : Cycle → List Proposal → List Proposal
 dropProposal c rows = fill proposalRows noProposal (keep (λ r. not (isOfCycle c r)) rows)
 
--- "ripe means announced day minus proposal day is at least 7"
+-- "A proposal is now ripe from 7 to 60 days and lapses on day 61.": of announced day minus proposal day
 abbrev pub noticeDays : ℕ
 noticeDays = 7
 
--- a proposal of this subject that is mature (01: ripe) on the announced day
+abbrev pub validDays : ℕ
+validDays = 60
+
+-- a proposal that has lapsed by the announced day
+abbrev pub isLapsed : Day → Proposal → Bool
+isLapsed announced r = isProposal r && ltb validDays (daysSince announced (r .day))
+
+-- "Lapsed rows, judged by the announced day, are dropped"
+unfoldable pub dropLapsed : Day → List Proposal → List Proposal
+dropLapsed announced rows = fill proposalRows noProposal (keep (λ r. not (isLapsed announced r)) rows)
+
+-- a proposal of this subject that is mature (01: ripe) on the announced day, in a table without lapsed rows
 abbrev pub isMature : Subject → Day → Proposal → Bool
 isMature x announced r =
     eqb (r .subject .kind) (x .kind)

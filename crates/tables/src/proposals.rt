@@ -2,7 +2,8 @@
 ghost use mathlib.Core.Path.{_≡_};
 ghost use Rattle.lists.specs.Fold.{count};
 ghost use Rattle.state.specs.Rows.{isProposal};
-ghost use Rattle.tables.specs.Proposals.{isOfCycle, isMature, proposalsFull, addProposal, hasProposal, dropProposal, matureProposal};
+ghost use Rattle.tables.specs.Proposals.{isOfCycle, isLapsed, isMature, proposalsFull, addProposal, hasProposal, dropProposal, dropLapsed};
+ghost use Rattle.tables.specs.Proposals.{matureProposal};
 use state::Cycle;
 use state::Day;
 use state::NO_PROPOSAL;
@@ -13,12 +14,23 @@ use state::limits::PROPOSAL_ROWS;
 // The least number of days from a proposal to the action.
 const NOTICE_DAYS: u32 = 7;
 
+// The greatest: a proposal has lapsed on the day after.
+const VALID_DAYS: u32 = 60;
+
 // A used row that was announced in this cycle.
 fn is_of_cycle(row: Proposal, c: Cycle) -> bool
     ensures { λ r. ⌜ r ≡ isOfCycle c row ⌝ }
 {
     let cycle = row.cycle;
     row.is_used() & cycle.is_same(c)
+}
+
+// A used row that has lapsed by the announced day.
+fn is_lapsed(row: Proposal, announced: Day) -> bool
+    ensures { λ r. ⌜ r ≡ isLapsed announced row ⌝ }
+{
+    let day = row.day;
+    row.is_used() & (VALID_DAYS < announced.since(day))
 }
 
 // A row of this subject that is mature on the announced day.
@@ -97,6 +109,24 @@ pub fn drop_proposal(rows: [Proposal; PROPOSAL_ROWS], c: Cycle) -> [Proposal; PR
     while i < PROPOSAL_ROWS {
         let row = rows[i];
         if !is_of_cycle(row, c) {
+            out[j] = row;
+            j = j + 1;
+        }
+        i = i + 1;
+    }
+    out
+}
+
+// The table without the proposals that have lapsed by the announced day.
+pub fn drop_lapsed(rows: [Proposal; PROPOSAL_ROWS], announced: Day) -> [Proposal; PROPOSAL_ROWS]
+    ensures { λ r. ⌜ r ≡ dropLapsed announced rows ⌝ }
+{
+    let mut out = [NO_PROPOSAL; PROPOSAL_ROWS];
+    let mut j: usize = 0;
+    let mut i: usize = 0;
+    while i < PROPOSAL_ROWS {
+        let row = rows[i];
+        if !is_lapsed(row, announced) {
             out[j] = row;
             j = j + 1;
         }

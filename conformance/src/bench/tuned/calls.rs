@@ -4,7 +4,7 @@ use super::actions::perform;
 use super::announcement::{is_sheet, Announcement};
 use super::image::{self, CHECKPOINT, IMAGE, MISSES, OWN, VOTE, VOTED};
 use super::records::{Query, Start};
-use super::rules::{deliver_refusal, query_refusal, shows_quorum, vote_refusal};
+use super::rules::{action_refusal, deliver_refusal, query_refusal, shows_quorum, vote_refusal};
 use super::state::{State, CERTIFIED, PRESENT};
 
 #[inline(never)]
@@ -47,6 +47,12 @@ pub fn node_deliver(image: &[u8], announcement: &[u8], sheet: &[u8], out: &mut [
         return 22;
     }
     let number = deliver_refusal(&state, &own, &announced, sheet);
+    if number != 0 {
+        return number;
+    }
+    // The image keeps them where it is not performed.
+    state.proposals.drop_lapsed(announced.day);
+    let number = action_refusal(&state, announced.day, &announced.action);
     if number != 0 {
         return number;
     }

@@ -6,7 +6,7 @@ use super::image::Own;
 use super::records::Query;
 use super::state::{quorum, State, CERTIFIED, FREE, PRESENT, RETIRED};
 
-/// Rules 3 to 14.
+/// Rules 3 to 8.
 pub fn deliver_refusal(state: &State, own: &Own, announced: &Announcement, sheet: &[u8]) -> u32 {
     match announced {
         _ if state.seats[own.seat].standing == RETIRED => 3,
@@ -15,7 +15,7 @@ pub fn deliver_refusal(state: &State, own: &Own, announced: &Announcement, sheet
         _ if state.cycle == u32::MAX => 6,
         a if a.day < state.day => 7,
         a if !is_signed(state, &a.action, sheet) => 8,
-        a => action_refusal(state, a.day, &a.action),
+        _ => 0,
     }
 }
 
@@ -30,8 +30,8 @@ fn is_signed(state: &State, action: &Action, sheet: &[u8]) -> bool {
     2 * mask.count_ones() > trustees
 }
 
-/// Rules 9 to 14.
-fn action_refusal(state: &State, day: u32, action: &Action) -> u32 {
+/// Rules 9 to 14, where lapsed proposals are dropped.
+pub fn action_refusal(state: &State, day: u32, action: &Action) -> u32 {
     let is_active = |seat: usize| matches!(state.seats[seat].standing, CERTIFIED | PRESENT);
     match *action {
         Action::Propose { .. } if state.proposals.is_full() => 11,
@@ -75,11 +75,13 @@ fn short(present: u8, margin: u8, least: u8) -> u32 {
     12 * u32::from(present < quorum(present, margin, least))
 }
 
-/// The place of the first proposal of this subject that is at least 7 days old.
+/// The place of the first proposal of this subject that is at least 7 days old; none has lapsed.
 pub fn ripe(state: &State, kind: u16, arguments: u64, day: u32) -> Option<usize> {
-    state.proposals.used().iter().position(|row| {
-        row.arguments == arguments && row.kind == kind && day.checked_sub(row.day) >= Some(7)
-    })
+    state
+        .proposals
+        .used()
+        .iter()
+        .position(|row| row.arguments == arguments && row.kind == kind && day - row.day >= 7)
 }
 
 pub fn place_of_cycle(state: &State, cycle: u32) -> Option<usize> {

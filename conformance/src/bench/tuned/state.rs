@@ -66,6 +66,24 @@ impl<T: Copy, const N: usize> Table<T, N> {
     }
 }
 
+impl Table<Proposal, 16> {
+    /// Drops the rows that are more than 60 days old on a day that no row's lies after. The rows left
+    /// move up.
+    pub fn drop_lapsed(&mut self, day: u32) {
+        let is_lapsed = |row: &Proposal| day - row.day > 60;
+        let Some(first) = self.used().iter().position(is_lapsed) else {
+            return;
+        };
+        let mut kept = first;
+        for at in first + 1..self.count {
+            let row = self.rows[at];
+            self.rows[kept] = row;
+            kept += usize::from(!is_lapsed(&row));
+        }
+        self.count = kept;
+    }
+}
+
 impl Table<Login, 64> {
     /// The place of a login, or where it would be put.
     pub fn place(&self, login: u32) -> Result<usize, usize> {

@@ -60,7 +60,12 @@ impl Hosts {
         };
         let outcome = one_call::compare(self.second, &request)?;
         host.keep(self.second, &request, &outcome)?;
-        Ok(Some(Event { request, outcome }))
+        let held = self.image(call.host).unwrap_or_default();
+        Ok(Some(Event {
+            request,
+            outcome,
+            held,
+        }))
     }
 }
 

@@ -3,7 +3,8 @@
 use super::arguments;
 use super::random::Random;
 use super::records;
-use crate::compare::fields::StateFields;
+use crate::compare::fields::{Proposal, StateFields};
+use crate::layout::PROPOSALS;
 
 /// Well formed and of the state's cycle.
 pub fn well_formed(rng: &mut Random, state: &StateFields) -> Vec<u8> {
@@ -18,29 +19,58 @@ pub fn any(rng: &mut Random, state: &StateFields) -> Vec<u8> {
 }
 
 fn content(rng: &mut Random, state: &StateFields) -> (u16, u32, [u8; 12]) {
-    if !state.proposals.is_empty() && rng.chance(25) {
-        return due(rng, state);
+    match rng.below(100) {
+        _ if state.proposals.is_empty() => {}
+        0..=24 => return due(rng, state),
+        25..=34 => return lapsing(rng, state),
+        _ => {}
     }
     let kind = rng.within(1, 9) as u16;
     let day = day(rng, state);
     (kind, day, arguments::arguments(rng, state, kind, day))
 }
 
-/// The subject of a listed proposal, around the day on which its notice ends.
+/// The subject of a listed proposal, around the days on which its notice ends and on which it lapses.
 fn due(rng: &mut Random, state: &StateFields) -> (u16, u32, [u8; 12]) {
     let row = state.proposals[rng.below(state.proposals.len())];
-    let notice = rng.pick(&[6, 7, 7, 7, 7, 8]);
-    let end = row.day.saturating_add(notice);
-    let day = if end >= state.day {
-        end
-    } else {
-        day(rng, state)
-    };
+    let age = rng.pick(&[6, 7, 7, 7, 7, 8, 60, 60, 61]);
+    let day = on_age(rng, state, &row, age);
     let mut arguments = row.arguments;
     if rng.chance(4) {
         arguments = arguments::subject(rng, state, row.kind);
     }
     (row.kind, day, records::arguments(&arguments))
+}
+
+/// Any action around the day on which a listed proposal lapses, mostly the oldest. A cancel is mostly
+/// of that one; to a full table another proposal is likely.
+fn lapsing(rng: &mut Random, state: &StateFields) -> (u16, u32, [u8; 12]) {
+    let any = rng.below(state.proposals.len());
+    let oldest = state.proposals.iter().min_by_key(|row| row.day);
+    let row = match oldest {
+        Some(oldest) if rng.chance(70) => *oldest,
+        _ => state.proposals[any],
+    };
+    let age = rng.pick(&[60, 60, 61, 61, 62]);
+    let day = on_age(rng, state, &row, age);
+    let is_full = state.proposals.len() == PROPOSALS.most;
+    let kind = match is_full && rng.chance(50) {
+        true => 1,
+        false => rng.within(1, 9) as u16,
+    };
+    let arguments = match kind {
+        2 if rng.chance(80) => records::arguments(&row.cycle.to_le_bytes()),
+        _ => arguments::arguments(rng, state, kind, day),
+    };
+    (kind, day, arguments)
+}
+
+/// The day on which a proposal is so many days old, or any where that has passed.
+fn on_age(rng: &mut Random, state: &StateFields, row: &Proposal, age: u32) -> u32 {
+    match row.day.saturating_add(age) {
+        end if end >= state.day => end,
+        _ => day(rng, state),
+    }
 }
 
 fn cycle(rng: &mut Random, state: &StateFields) -> u32 {

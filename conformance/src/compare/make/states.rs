@@ -69,7 +69,7 @@ fn set_minima(rng: &mut Random, state: &mut StateFields) {
     state.silence = values::any_silence(rng);
 }
 
-/// Proposals around the notice of 7 days, many with the same subject, since then the lowest cycle
+/// Proposals of ages that belong together, many with the same subject, since then the lowest cycle
 /// decides.
 fn set_proposals(rng: &mut Random, state: &mut StateFields) {
     let most = state.cycle.min(PROPOSALS.most as u32);
@@ -88,25 +88,36 @@ fn set_proposals(rng: &mut Random, state: &mut StateFields) {
             _ => rng.within(0, state.cycle - 1),
         });
     }
+    let ages = AGES[rng.below(AGES.len())];
     state.proposals.clear();
     for cycle in cycles {
-        let row = proposal(rng, state, cycle);
+        let (low, high) = rng.pick(ages);
+        let age = rng.within(low, high.min(state.day).max(low));
+        let row = proposal(rng, state, cycle, state.day.saturating_sub(age));
         state.proposals.push(row);
     }
 }
 
-fn proposal(rng: &mut Random, state: &StateFields, cycle: u32) -> Proposal {
+/// Lowest and highest ages of the proposals of a state, on the agreed day: around the 7 days of
+/// notice, none lapsed, around the day on which they lapse, all lapsed, and of every sort. The last
+/// have ages that are small when they are cut to 8 or 16 bits.
+const AGES: [&[(u32, u32)]; 7] = [
+    &[(0, 0), (4, 9), (4, 9)],
+    &[(0, 0), (4, 9), (4, 9), (0, u32::MAX)],
+    &[(0, 60)],
+    &[(4, 9), (58, 62)],
+    &[(4, 9), (61, 61), (62, 400)],
+    &[(61, 61), (62, 400), (62, u32::MAX)],
+    &[(0, 9), (60, 61), (256, 316), (65_536, 65_596)],
+];
+
+fn proposal(rng: &mut Random, state: &StateFields, cycle: u32, day: u32) -> Proposal {
     let (kind, arguments) = match state.proposals.len() {
         used if used > 0 && rng.chance(45) => {
             let earlier = state.proposals[rng.below(used)];
             (earlier.kind, earlier.arguments)
         }
         _ => arguments::any(rng, state),
-    };
-    let day = match rng.below(5) {
-        0 => state.day,
-        1 => rng.within(0, state.day),
-        _ => state.day.saturating_sub(rng.within(4, 9)),
     };
     Proposal {
         cycle,

@@ -1,6 +1,7 @@
 //! What the calls met: answers by call, actions, both ends of every range, pages and rosters at their
 //! edges.
 
+use super::notices::Notices;
 use super::ranges::{Range, ANNOUNCED, DATES, HEAD, PERFORMED, RANGES};
 use super::rosters::Rosters;
 use crate::compare::call::{Outcome, Records, Request, CALLS, VOTED};
@@ -18,6 +19,8 @@ pub struct Coverage {
     pub slices: [[u64; 3]; CALLS.len()],
     pub low: Vec<u64>,
     pub high: Vec<u64>,
+    /// Of histories only.
+    pub notices: Notices,
     pub rosters: Rosters,
 }
 
@@ -32,6 +35,7 @@ impl Coverage {
             slices: [[0; 3]; CALLS.len()],
             low: none.clone(),
             high: none,
+            notices: Notices::new(),
             rosters: Rosters::new(),
         }
     }

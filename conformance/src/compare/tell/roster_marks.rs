@@ -1,16 +1,6 @@
 //! What the calls of rosters (request A2) must meet.
 
-macro_rules! marks {
-    ($($title:literal { $($id:ident $name:literal;)* })*) => {
-        #[derive(Clone, Copy)]
-        pub enum Mark { $($($id,)*)* }
-        /// All marks with their names, in groups.
-        pub const GROUPS: &[(&str, &[(Mark, &str)])] = &[
-            $(($title, &[$((Mark::$id, $name)),*])),*
-        ];
-        pub const COUNT: usize = [$($(Mark::$id),*),*].len();
-    };
-}
+use super::marks::marks;
 
 marks! {
     "rosters given" {

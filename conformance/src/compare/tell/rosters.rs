@@ -1,6 +1,7 @@
 //! What the calls of rosters (request A2) met, each with its own count.
 
-use super::roster_marks::{Mark, COUNT, DIGITS, GROUPS};
+use super::marks::Counts;
+use super::roster_marks::{Mark, DIGITS};
 use crate::compare::call::{Outcome, Records, Request};
 use crate::layout::{self, roster_lines, ANNOUNCEMENT_SIZE, ARGUMENTS, LOGIN};
 use crate::paper::announcement::{Action, Announcement};
@@ -9,30 +10,9 @@ use crate::paper::roster::{import, Malformed, Way};
 use std::collections::HashSet;
 use std::ops::RangeInclusive;
 
-/// How often each mark was met.
-pub struct Rosters {
-    counts: [u64; COUNT],
-}
+pub type Rosters = Counts<Mark>;
 
 impl Rosters {
-    pub fn new() -> Rosters {
-        Rosters { counts: [0; COUNT] }
-    }
-
-    pub fn meet(&mut self, mark: Mark) {
-        self.add(mark, 1);
-    }
-
-    fn add(&mut self, mark: Mark, count: u64) {
-        self.counts[mark as usize] += count;
-    }
-
-    fn meet_if(&mut self, marks: &[(bool, Mark)]) {
-        for (_, mark) in marks.iter().filter(|(is_met, _)| *is_met) {
-            self.meet(*mark);
-        }
-    }
-
     pub fn note(&mut self, request: &Request, outcome: &Outcome) {
         let (size, out) = (request.size(), request.out);
         match (&request.records, outcome.number) {
@@ -214,29 +194,6 @@ impl Rosters {
             Action::Grant { end, .. } if end.number() == 47_482 => Mark::ExportLater,
             Action::Grant { .. } => return,
         });
-    }
-
-    /// What was never met, one line each.
-    pub fn missing(&self) -> Vec<String> {
-        let marks = GROUPS.iter().flat_map(|(title, marks)| {
-            let never = marks
-                .iter()
-                .filter(|(mark, _)| self.counts[*mark as usize] == 0);
-            never.map(move |(_, name)| format!("{title}: {name}"))
-        });
-        marks.collect()
-    }
-
-    /// A line for each group.
-    pub fn summary(&self) -> Vec<String> {
-        let line = |(title, marks): &(&str, &[(Mark, &str)])| {
-            let counts = marks.iter().map(|(mark, name)| {
-                let count = self.counts[*mark as usize];
-                format!("{name}: {count}")
-            });
-            format!("{title}  {}", counts.collect::<Vec<_>>().join("  "))
-        };
-        GROUPS.iter().map(line).collect()
     }
 }
 

@@ -21,8 +21,9 @@ impl Coverage {
                 let high = (self.high[i] == 0).then(|| format!("{name}: {high}"));
                 low.into_iter().chain(high)
             });
-        let rosters = self.rosters.missing();
-        calls.chain(kinds).chain(ends).chain(rosters).collect()
+        let marks = self.notices.missing().into_iter();
+        let marks = marks.chain(self.rosters.missing());
+        calls.chain(kinds).chain(ends).chain(marks).collect()
     }
 
     fn missing_of_call(&self, call: usize) -> Vec<String> {
@@ -54,6 +55,7 @@ impl Coverage {
                 .collect();
             lines.push(format!("kinds {name}  {}", counts.join("  ")));
         }
+        lines.extend(self.notices.summary());
         lines.extend(self.rosters.summary());
         lines
     }

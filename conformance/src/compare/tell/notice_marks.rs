@@ -1,0 +1,76 @@
+//! What the histories must meet of notices that lapse (request A3). An age is the announced day minus
+//! the proposal's.
+
+use super::marks::marks;
+
+marks! {
+    "notices used" {
+        Certify6 "certify after 6 days, no 10";
+        Certify7 "certify after 7 days";
+        Certify60 "certify after 60 days";
+        Certify61 "certify after 61 days, no 10";
+        Minima6 "minima after 6 days, no 10";
+        Minima7 "minima after 7 days";
+        Minima60 "minima after 60 days";
+        Minima61 "minima after 61 days, no 10";
+        Remove6 "remove after 6 days, no 10";
+        Remove7 "remove after 7 days";
+        Remove60 "remove after 60 days";
+        Remove61 "remove after 61 days, no 10";
+        BehindLapsed "behind a lapsed equal one";
+    }
+    "notices cancelled" {
+        Cancel60 "after 60 days";
+        Cancel61 "after 61 days, no 13";
+    }
+    "proposals to a full table" {
+        Full60 "oldest of 60 days, no 11";
+        Full61 "oldest of 61 days";
+        FullLapsed "all lapsed";
+    }
+    "lapsed notices dropped by" {
+        Propose "propose";
+        Cancel "cancel";
+        Presents "presents";
+        Certify "certify";
+        Minima "minima";
+        Remove "remove";
+        Rejoin "rejoin";
+        Grant "grant";
+        End "end";
+    }
+    "lapsed notices kept by" {
+        Voted "vote";
+        Refused3To8 "no 3 to 8";
+        Refused9To14 "no 9 to 14";
+        Refused15Or16 "no 15 or 16";
+        Started "start";
+        Queried "query";
+        Checkpoint "checkpoint";
+    }
+}
+
+/// By kind, from 4: a use at the edges of 7 and of 60 days.
+pub const USED: [[Mark; 4]; 3] = [
+    [
+        Mark::Certify6,
+        Mark::Certify7,
+        Mark::Certify60,
+        Mark::Certify61,
+    ],
+    [Mark::Minima6, Mark::Minima7, Mark::Minima60, Mark::Minima61],
+    [Mark::Remove6, Mark::Remove7, Mark::Remove60, Mark::Remove61],
+];
+
+/// By kind, from 1: a performed action that drops a lapsed row.
+pub const DROPPED: [Mark; 9] = [
+    Mark::Propose,
+    Mark::Cancel,
+    Mark::Presents,
+    Mark::Certify,
+    Mark::Minima,
+    Mark::Remove,
+    Mark::Rejoin,
+    Mark::Grant,
+    Mark::End,
+];

@@ -42,7 +42,6 @@ module _ (rows : List Proposal) (d : Day) (x : Subject) where
 
   -- a listed proposal that is one: the first that is mature
   pub record Noticed : Type 0 where
-    pub left : List·Memᴰ found (dropLapsed d rows)
     pub listed : List·Memᴰ found rows
     pub notice : IsNotice x d found
 
@@ -57,7 +56,7 @@ module _ (rows : List Proposal) (d : Day) (x : Subject) where
       by (inl f) = absurd (false≢true (ap isProposal (sym f) ∙ used))
       by (inr f) =
           let n = mature-is-notice x k d rows found .notice (f .0) (f .1) in
-          record { left = f .0; listed = n .0; notice = n .1 }
+          record { listed = n .0; notice = n .1 }
 
   pub lacks-notice : x .kind ≢ 0 → NoNotice → Lacks ≡ true
   lacks-notice k none = by Lacks refl

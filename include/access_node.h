@@ -142,7 +142,7 @@ uint32_t node_start(const uint8_t *checkpoint, size_t checkpoint_length,
 
 /* Delivers an announcement with its sheet: performs it where the sheet shows a quorum, else votes.
  * Refusals: 1, 2, 22, 3 to 16. Writes the image with 0 and ACCESS_NODE_VOTED. */
-#define ACCESS_NODE_STACK_DELIVER 15360
+#define ACCESS_NODE_STACK_DELIVER 10240
 uint32_t node_deliver(const uint8_t *image, size_t image_length,
                       const uint8_t *announcement, size_t announcement_length,
                       const uint8_t *sheet, size_t sheet_length,

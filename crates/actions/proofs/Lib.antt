@@ -1,4 +1,5 @@
 -- What a performed announcement leaves, and what the rules ask for before one is.
+pub mod Parts
 pub mod FittingRows
 pub mod Sound
 pub mod Kept

@@ -1,3 +1,4 @@
 -- What an announcement does to a state.
 pub mod Perform
+pub mod Code
 pub mod Claims

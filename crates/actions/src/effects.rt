@@ -1,68 +1,28 @@
-// The nine actions: each from a state to a state.
+// The nine actions: what each leaves of the parts of a state.
 ghost use mathlib.Core.Path.{_≡_};
 ghost use mathlib.Core.Bool.{cond};
-ghost use Rattle.records.specs.declared.Action.the-variants as Action;
-ghost use Rattle.actions.specs.Perform.{withStanding, withLife, effect, useProposal, act, advance, withoutLapsed};
-ghost use Rattle.state.specs.Update.{withSeats, withProposals, withLogins, withMinima};
+ghost use Rattle.actions.specs.Code.{seatAfter, minimaAfter, proposalsAfter};
+ghost use Rattle.actions.specs.Perform.{advance};
+ghost use Rattle.rules.specs.Code.{FindsSeats, FindsNotice};
 ghost use Rattle.state.specs.Seats.{certified, present};
-ghost use Rattle.state.specs.declared.Day.{Day};
 use records::Action;
 use records::Announcement;
+use rules::Found;
 use state::Cycle;
 use state::Day;
-use state::Login;
 use state::Minima;
 use state::Proposal;
 use state::Seat;
 use state::State;
-use state::Subject;
-use state::limits::LOGIN_ROWS;
 use state::limits::PROPOSAL_ROWS;
 use state::limits::SEATS;
 use state::seats::CERTIFIED;
 use state::seats::PRESENT;
 use state::seats::RETIRED;
-use state::seats::seat_at;
-use state::seats::set_seat;
 use tables::logins::end_login;
 use tables::logins::grant_login;
 use tables::proposals::add_proposal;
-use tables::proposals::drop_lapsed;
 use tables::proposals::drop_proposal;
-use tables::proposals::mature_proposal;
-
-// The state with this table or these minima in place of its own.
-fn with_seats(s: State, seats: [Seat; SEATS]) -> State
-    ensures { λ r. ⌜ r ≡ withSeats seats s ⌝ }
-{
-    let mut out = s;
-    out.seats = seats;
-    out
-}
-
-fn with_proposals(s: State, proposals: [Proposal; PROPOSAL_ROWS]) -> State
-    ensures { λ r. ⌜ r ≡ withProposals proposals s ⌝ }
-{
-    let mut out = s;
-    out.proposals = proposals;
-    out
-}
-
-fn with_logins(s: State, logins: [Login; LOGIN_ROWS]) -> State
-    ensures { λ r. ⌜ r ≡ withLogins logins s ⌝ }
-{
-    let mut out = s;
-    out.logins = logins;
-    out
-}
-
-fn with_minima(s: State, minima: Minima) -> State
-    ensures { λ r. ⌜ r ≡ withMinima minima s ⌝ }
-{
-    let mut out = s;
-    out.minima = minima;
-    out
-}
 
 // The standing that kind 3 gives.
 fn given_standing(flag: bool) -> u8
@@ -71,115 +31,114 @@ fn given_standing(flag: bool) -> u8
     if flag { PRESENT } else { CERTIFIED }
 }
 
-// A seat with another standing.
-fn with_standing(s: State, i: u8, standing: u8) -> State
-    ensures { λ r. ⌜ r ≡ withStanding i standing s ⌝ }
-{
-    let seats = s.seats;
-    let seat = seat_at(seats, i);
-    with_seats(s, set_seat(seats, i, standing, seat.life))
-}
-
-// A seat with another life.
-fn with_life(s: State, i: u8, life: u32) -> State
-    ensures { λ r. ⌜ r ≡ withLife i life s ⌝ }
-{
-    let seats = s.seats;
-    let seat = seat_at(seats, i);
-    with_seats(s, set_seat(seats, i, seat.standing, life))
-}
-
-fn propose(s: State, d: Day, subject: Subject) -> State
-    ensures { λ r. ⌜ r ≡ effect s d (Action.Propose subject) ⌝ }
-{
-    let rows = s.proposals;
-    let cycle = s.cycle;
-    let row = Proposal {
-        cycle: cycle,
-        day: d,
-        subject: subject,
-    };
-    with_proposals(s, add_proposal(rows, row))
-}
-
-fn cancel(s: State, cycle: Cycle) -> State
-    ensures { λ r. ⌜ ((d : Day) → r ≡ effect s d (Action.Cancel cycle)) ⌝ }
-{
-    let rows = s.proposals;
-    with_proposals(s, drop_proposal(rows, cycle))
-}
-
-fn certify(s: State, seat: u8, life: u32) -> State
-    ensures { λ r. ⌜ ((d : Day) → r ≡ effect s d (Action.Certify seat life)) ⌝ }
-{
-    let seats = s.seats;
-    with_seats(s, set_seat(seats, seat, CERTIFIED, life))
-}
-
-fn grant(s: State, row: Login) -> State
-    ensures { λ r. ⌜ ((d : Day) → r ≡ effect s d (Action.Grant row)) ⌝ }
-{
-    let rows = s.logins;
-    with_logins(s, grant_login(rows, row))
-}
-
-fn end(s: State, login: u32) -> State
-    ensures { λ r. ⌜ ((d : Day) → r ≡ effect s d (Action.End login)) ⌝ }
-{
-    let rows = s.logins;
-    with_logins(s, end_login(rows, login))
-}
-
-// The state without the mature proposal of this subject, where there is a subject.
-fn use_proposal(s: State, subject: Subject, d: Day) -> State
-    ensures { λ r. ⌜ r ≡ useProposal subject d s ⌝ }
-{
-    if subject.kind == 0 {
-        return s;
-    }
-    let rows = s.proposals;
-    let used = mature_proposal(rows, subject, d);
-    with_proposals(s, drop_proposal(rows, used.cycle))
-}
-
-// What an action, announced on day d, does to the tables and the minima.
-fn act(s: State, d: Day, action: Action) -> State
-    ensures { λ r. ⌜ r ≡ act s d action ⌝ }
+// The seat that the action names, as it leaves it.
+fn seat_after(seat: Seat, action: Action) -> Seat
+    ensures { λ r. ⌜ r ≡ seatAfter seat action ⌝ }
 {
     match action {
-        Action::Propose { subject } => propose(s, d, subject),
-        Action::Cancel { cycle } => cancel(s, cycle),
-        Action::Presents { seat, flag } => with_standing(s, seat, given_standing(flag)),
-        Action::Certify { seat, life } => use_proposal(certify(s, seat, life), action.subject(), d),
-        Action::Minima { minima } => use_proposal(with_minima(s, minima), action.subject(), d),
-        Action::Remove { seat } => use_proposal(
-            with_standing(s, seat, RETIRED),
-            action.subject(),
-            d,
-        ),
-        Action::Rejoin { seat, life } => with_life(s, seat, life),
-        Action::Grant { row } => grant(s, row),
-        Action::End { login } => end(s, login),
+        Action::Propose { subject } => seat,
+        Action::Cancel { cycle } => seat,
+        Action::Presents { seat: i, flag } => Seat {
+            standing: given_standing(flag),
+            life: seat.life,
+        },
+        Action::Certify { seat: i, life } => Seat {
+            standing: CERTIFIED,
+            life,
+        },
+        Action::Minima { minima } => seat,
+        Action::Remove { seat: i } => Seat {
+            standing: RETIRED,
+            life: seat.life,
+        },
+        Action::Rejoin { seat: i, life } => Seat {
+            standing: seat.standing,
+            life,
+        },
+        Action::Grant { row } => seat,
+        Action::End { login } => seat,
     }
 }
 
-// The state that the rules on proposals and the action see.
-pub fn without_lapsed(s: State, announced: Day) -> State
-    ensures { λ r. ⌜ r ≡ withoutLapsed announced s ⌝ }
+fn minima_after(minima: Minima, action: Action) -> Minima
+    ensures { λ r. ⌜ r ≡ minimaAfter minima action ⌝ }
 {
-    let rows = s.proposals;
-    with_proposals(s, drop_lapsed(rows, announced))
+    match action {
+        Action::Propose { subject } => minima,
+        Action::Cancel { cycle } => minima,
+        Action::Presents { seat, flag } => minima,
+        Action::Certify { seat, life } => minima,
+        Action::Minima { minima: x } => x,
+        Action::Remove { seat } => minima,
+        Action::Rejoin { seat, life } => minima,
+        Action::Grant { row } => minima,
+        Action::End { login } => minima,
+    }
 }
 
-// The state after an announcement is performed, from the one that it sees.
-pub fn advance(s: State, a: Announcement) -> State
+// The proposals, in this cycle and for an action that is announced on day d. An action that needs a notice uses it up.
+fn proposals_after(
+    rows: [Proposal; PROPOSAL_ROWS],
+    notice: Cycle,
+    cycle: Cycle,
+    d: Day,
+    action: Action,
+) -> [Proposal; PROPOSAL_ROWS]
+    ensures { λ r. ⌜ r ≡ proposalsAfter rows notice cycle d action ⌝ }
+{
+    match action {
+        Action::Propose { subject } => add_proposal(
+            rows,
+            Proposal {
+                cycle,
+                day: d,
+                subject,
+            },
+        ),
+        Action::Cancel { cycle: c } => drop_proposal(rows, c),
+        Action::Presents { seat, flag } => rows,
+        Action::Certify { seat, life } => drop_proposal(rows, notice),
+        Action::Minima { minima } => drop_proposal(rows, notice),
+        Action::Remove { seat } => drop_proposal(rows, notice),
+        Action::Rejoin { seat, life } => rows,
+        Action::Grant { row } => rows,
+        Action::End { login } => rows,
+    }
+}
+
+// The state after an announcement is performed, from the one that it sees. One copy, changed in place: a function for each action that hands
+// back a state would copy it at each return.
+pub fn advance(s: State, found: Found, a: Announcement) -> State
+    requires { ⌜ FindsSeats s (a .action) found × FindsNotice s (a .day) (a .action) found ⌝ }
     ensures { λ r. ⌜ r ≡ advance s a ⌝ }
 {
+    let mut out = s;
     let action = a.action;
     let day = a.day;
-    let cycle = s.cycle;
-    let mut out = act(s, day, action);
+    let cycle = out.cycle;
+    let notice = found.notice;
+    let minima = minima_after(out.minima, action);
+    let at = action.seat() as usize;
     out.cycle = cycle.next();
     out.day = day;
+    out.minima = minima;
+    if at < SEATS {
+        out.seats[at] = seat_after(found.seat, action);
+    }
+    if let Action::Grant { row } = action {
+        let logins = out.logins;
+        let next = grant_login(logins, row);
+        out.logins = next;
+        return out;
+    }
+    if let Action::End { login } = action {
+        let logins = out.logins;
+        let next = end_login(logins, login);
+        out.logins = next;
+        return out;
+    }
+    let rows = out.proposals;
+    let proposals = proposals_after(rows, notice.cycle, cycle, day, action);
+    out.proposals = proposals;
     out
 }

@@ -6,4 +6,5 @@ pub mod Rows
 pub mod Copies
 pub mod Frames
 pub mod Slices
+pub mod Zeros
 pub mod Same

@@ -17,6 +17,10 @@ use Rattle.binary.specs.Splice.{splice}
 use Rattle.binary.proofs.Splices.{splice-splice, splice-none}
 
 module _ {A : Type 0} (f : Codec A) where
+  -- a row and n rows after it
+  pub suc-rows : (n : ℕ) → f .width + n * f .width ≡ suc n * f .width
+  suc-rows n = add-comm (f .width) (n * f .width) ∙ sym (suc-mul n (f .width))
+
   -- one more row, at the end
   encodeRows-snoc : (xs : List A) (x : A) → encodeRows f (xs ++ (x ∷ [])) ≡ encodeRows f xs ++ f .encode x
   unfolding encodeRows
@@ -27,18 +31,14 @@ module _ {A : Type 0} (f : Codec A) where
   decodeRows-snoc : (n : ℕ) (b : List ℕ) → decodeRows f (suc n) b ≡ decodeRows f n b ++ (f .decode (drop (n * f .width) b) ∷ [])
   unfolding decodeRows
   decodeRows-snoc zero b = rw zero-mul
-  decodeRows-snoc (suc n) b =
-      let k : f .width + n * f .width ≡ suc n * f .width = add-comm (f .width) (n * f .width) ∙ sym (suc-mul n (f .width)) in
-      rw (decodeRows-snoc n (drop (f .width) b), drop-drop, k)
+  decodeRows-snoc (suc n) b = rw (decodeRows-snoc n (drop (f .width) b), drop-drop, suc-rows n)
 
   -- row i of n lies after i rows, and there is none from n on
   pub row-of : (n i : ℕ) (b : List ℕ) (d : A) → i < n → getD (decodeRows f n b) i d ≡ f .decode (drop (i * f .width) b)
   unfolding decodeRows
   row-of zero i b d h = absurd (omega arith)
   row-of (suc n) zero b d h = rw zero-mul
-  row-of (suc n) (suc i) b d h =
-      let k : f .width + i * f .width ≡ suc i * f .width = add-comm (f .width) (i * f .width) ∙ sym (suc-mul i (f .width)) in
-      row-of n i (drop (f .width) b) d (omega arith) ∙ rw (drop-drop, k)
+  row-of (suc n) (suc i) b d h = row-of n i (drop (f .width) b) d (omega arith) ∙ rw (drop-drop, suc-rows i)
 
   pub no-row : (n i : ℕ) (b : List ℕ) (d : A) → n ≤ i → getD (decodeRows f n b) i d ≡ d
   unfolding decodeRows

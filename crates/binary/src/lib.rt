@@ -113,16 +113,15 @@ pub fn put_u64(out: &mut [u8], at: usize, x: u64)
     put_u32(out, at + 4, (x / 4294967296) as u32);
 }
 
-// Every byte from an index on is zero.
+// Every byte from an index on is zero. The loop does not stop at the first other byte, so that the compiler can test many bytes at once.
 pub fn is_zero_from(at: usize, b: &[u8]) -> bool
     ensures { λ r. ⌜ r ≡ isZeroFrom at (now (b .entry)) ⌝ }
 {
+    let mut zero = true;
     let mut i = at;
     while i < b.len() {
-        if b[i] != 0 {
-            return false;
-        }
+        zero = zero & (b[i] == 0);
         i += 1;
     }
-    true
+    zero
 }

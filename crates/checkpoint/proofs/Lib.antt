@@ -2,3 +2,4 @@
 pub mod RoundTrips
 pub mod Written
 pub mod Fields
+pub mod Spares

@@ -29,6 +29,7 @@ use crate::read::login_at;
 use crate::read::proposal_at;
 use crate::read::seat_at;
 use binary::is_record;
+use binary::is_zero_from;
 use binary::size;
 use state::Cycle;
 use state::Day;
@@ -116,21 +117,15 @@ fn leading_proposals(table: &[u8], c: Cycle, d: Day) -> usize
     i
 }
 
-// The proposals from a row on are unused.
+// The proposals from a row on are unused. An unused row is zero, so its bytes are tested and no row is read.
 fn are_zero_proposals(table: &[u8], from: usize) -> bool
     requires { ⌜ (proposalRows * proposalSize ≤ length (now table)) × (from ≤ proposalRows) ⌝ }
     ensures { λ r. ⌜ r ≡ all (isSpare isProposal isBlankProposal) (drop from (decodeRows proposal proposalRows (now (table .entry)))) ⌝ }
 {
-    let mut i = from;
-    while i < PROPOSAL_ROWS {
-        let row = proposal_at(table, i * PROPOSAL_SIZE);
-        if row.is_zero() {
-            i = i + 1;
-        } else {
-            return false;
-        }
-    }
-    true
+    is_zero_from(
+        from * PROPOSAL_SIZE,
+        &table[0..PROPOSAL_ROWS * PROPOSAL_SIZE],
+    )
 }
 
 // The table of proposals with its count, in a state of this cycle and agreed day.
@@ -162,21 +157,12 @@ fn leading_logins(table: &[u8]) -> usize
     i
 }
 
-// The logins from a row on are unused.
+// The logins from a row on are unused. An unused row is zero, so its bytes are tested and no row is read.
 fn are_zero_logins(table: &[u8], from: usize) -> bool
     requires { ⌜ (loginRows * loginSize ≤ length (now table)) × (from ≤ loginRows) ⌝ }
     ensures { λ r. ⌜ r ≡ all (isSpare isLogin isBlankLogin) (drop from (decodeRows login loginRows (now (table .entry)))) ⌝ }
 {
-    let mut i = from;
-    while i < LOGIN_ROWS {
-        let row = login_at(table, i * LOGIN_SIZE);
-        if row.is_zero() {
-            i = i + 1;
-        } else {
-            return false;
-        }
-    }
-    true
+    is_zero_from(from * LOGIN_SIZE, &table[0..LOGIN_ROWS * LOGIN_SIZE])
 }
 
 // The table of logins with its count.

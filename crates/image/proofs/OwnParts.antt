@@ -1,11 +1,11 @@
 -- An image read: the fields of its own part at their offsets, and what the tests come to; written: the number of rows of a table.
 use Prim.Native.Nat.{ℕ, zero, suc, _≤_}
 use native.Mathlib.Omega.{arith}
-use mathlib.Core.Path.{_≡_, refl, sym, ap, _∙_}
+use mathlib.Core.Path.{_≡_, refl, ap, _∙_}
 use mathlib.Core.Bool.{Bool, true, not, _&&_}
-use mathlib.Core.List.{List, [], _∷_, map}
+use mathlib.Core.List.{List, [], _∷_}
 use lib.Dec.{eqb, leb, ltb}
-use lib.ListN.{length, take, drop, length-drop, length-map}
+use lib.ListN.{length, take, drop, length-drop}
 use lib.Seq.{getD-drop, drop-drop}
 use borrow.Author.Tests.{eq-eqb}
 use Rattle.binary.specs.Number.{field, byteAt}
@@ -71,7 +71,3 @@ pub image-tested : (b : List ℕ) (own : Bool) → length b ≡ imageSize → is
     → own ≡ isWellFormedOwn (decodeImage b .state) (decodeImage b .own) → isImage b ≡ (leb (byteAt flagAt b) 1 && own)
 unfolding isImage
 image-tested b own l e f = rw (eq-eqb _ _ l, e, flag-at b, ← f)
-
--- A table in a struct: what is told of its length is told of its rows as they stand in memory.
-pub mapped-length : (A B : Type 0) (f : A → B) (l : List A) (n : ℕ) → length (map f l) ≡ n → length l ≡ n
-mapped-length A B f l n e = sym (length-map l f) ∙ e

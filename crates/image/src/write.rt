@@ -18,8 +18,8 @@ use binary::put_bytes;
 use binary::put_u8;
 use binary::put_u32;
 use checkpoint::write_checkpoint;
-use node::Node;
 use records::layout::ANNOUNCEMENT_SIZE;
+use state::State;
 use verdicts::Own;
 
 // The byte of the voted flag.
@@ -51,11 +51,11 @@ pub fn put_image(state: &[u8], own: Own, out: &mut [u8])
     put_own(out, own);
 }
 
-// Writes a node's image to the front of a slice.
-pub fn write_image(n: Node, out: &mut [u8])
+// Writes the image of a node of this state and own part to the front of a slice.
+pub fn write_image(state: State, own: Own, out: &mut [u8])
     requires { ⌜ imageSize ≤ length (now out) ⌝ }
-    ensures { λ _. ⌜ now (out .exit) ≡ overwrite (imageBytes n) (now (out .entry)) ⌝ }
+    ensures { λ _. ⌜ now (out .exit) ≡ overwrite (imageBytes (record { state = state; own = own })) (now (out .entry)) ⌝ }
 {
-    write_checkpoint(n.state, out);
-    put_own(out, n.own);
+    write_checkpoint(state, out);
+    put_own(out, own);
 }

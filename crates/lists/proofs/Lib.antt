@@ -10,4 +10,3 @@ pub mod TableMembers
 pub mod Fronts
 pub mod Count
 pub mod Loops
-pub mod Marks

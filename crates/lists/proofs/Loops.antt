@@ -28,6 +28,10 @@ module _ {A : Type 0} (p : A → Bool) (l : List A) (i : ℕ) (d : A) (h : i < l
   unfolding any
   any-turn = rw (add-one, drop-cons l i d h)
 
+  pub all-turn : all p (drop i l) ≡ (p (getD l i d) && all p (drop (i + 1) l))
+  unfolding all
+  all-turn = rw (add-one, drop-cons l i d h)
+
   pub all-pass : p (getD l i d) ≡ true → all p (drop i l) ≡ all p (drop (i + 1) l)
   unfolding all
   all-pass e = rw (add-one, drop-cons l i d h, e)

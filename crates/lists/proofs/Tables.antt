@@ -1,12 +1,12 @@
 -- Tables: the used rows first, with rising keys, and then unused ones; what the operations on a table keep of that.
-use mathlib.Core.Path.{_≡_, refl, ap, _∙_}
+use mathlib.Core.Path.{_≡_, refl, sym, ap, _∙_}
 use mathlib.Core.Bool.{Bool, true, false, not, and-eq-true-iff}
-use mathlib.Core.List.{List, [], _∷_, _++_}
+use mathlib.Core.List.{List, [], _∷_, _++_, map}
 use Prim.Native.Nat.{ℕ, zero, suc, _-_, _≤_, _<_}
 use native.Mathlib.Nat.{le-trans}
 use native.Mathlib.Omega.{arith}
 use lib.Dec.{leb}
-use lib.ListN.{length, take, replicate, length-append, length-replicate}
+use lib.ListN.{length, take, replicate, length-append, length-replicate, length-map}
 use borrow.Author.Tests.{leb-true, le-leb, not-true}
 use Rattle.lists.specs.Fold.{any}
 use Rattle.lists.specs.Table.{risingFrom, keep, fill, replaceFirst}
@@ -110,3 +110,7 @@ module _ {A : Type 0} {used : A → Bool} {key : A → ℕ} {lo n : ℕ} {Ok : A
     rising = rising-append-same (n - length (keep p rows)) (rising-keep p (t .rising)) u;
     each = all-fill n (all-keep p (t .each)) o;
   }
+
+-- A table in a struct: what is told of its length is told of its rows as they stand in memory.
+pub mapped-length : (A B : Type 0) (f : A → B) (l : List A) (n : ℕ) → length (map f l) ≡ n → length l ≡ n
+mapped-length A B f l n e = sym (length-map l f) ∙ e

@@ -5,13 +5,20 @@ use mathlib.Core.Bool.{true, false}
 use mathlib.Core.List.{List}
 use Prim.Native.Nat.{ℕ}
 use borrow.Author.Tests.{eq-eqb, ne-eqb}
+use Rattle.state.specs.declared.Day.{Day}
 use Rattle.state.specs.declared.State.{State}
+use Rattle.state.specs.Seats.{quorumOf}
 use Rattle.records.specs.declared.Announcement.{Announcement}
 use Rattle.actions.specs.Perform.{advance, withoutLapsed, perform}
 use Rattle.verdicts.specs.Verdicts.{deliverRefusal, showsQuorum, voteRefusal}
 use Rattle.node.specs.declared.Node.{Node}
 use Rattle.node.specs.declared.DeliverReply.{DeliverReply}
 use Rattle.node.specs.Deliver.{refusesDelivery, leaves, votes, deliverRead}
+
+-- The quorum does not look at the proposals.
+pub same-quorum : (n : Node) (d : Day) {seen : State} (sb : List ℕ) → seen ≡ withoutLapsed d (n .state) → showsQuorum seen sb ≡ showsQuorum (n .state) sb
+unfolding showsQuorum quorumOf
+same-quorum n d sb sees = ap (λ (s : State). showsQuorum s sb) sees
 
 module _ (n : Node) (ab sb : List ℕ) (a : Announcement) (r : DeliverReply) {seen : State} {k : ℕ}
     (sees : seen ≡ withoutLapsed (a .day) (n .state)) (rules : k ≡ deliverRefusal seen (n .own) a sb) where

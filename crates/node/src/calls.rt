@@ -4,9 +4,7 @@ ghost use mathlib.Core.Bool.{true};
 ghost use Prim.Native.Nat.{_<_};
 ghost use lib.ListN.{length};
 ghost use Rattle.records.specs.Layout.{announcementSize};
-ghost use Rattle.records.specs.Sheet.{isSheet};
-ghost use Rattle.actions.specs.Perform.{advance};
-ghost use Rattle.node.specs.Deliver.{refusesDelivery, leaves, votes, deliverRead, deliverOf};
+ghost use Rattle.node.specs.Deliver.{refusesDelivery, leaves, votes, deliverOf};
 ghost use Rattle.verdicts.specs.Own.{mostMisses};
 ghost use Rattle.node.specs.Query.{withMissCount, addsMiss, queryReply, queryOf};
 ghost use Rattle.node.specs.Start.{blankNode, refusesStart, startRead, startOf};
@@ -24,7 +22,6 @@ use crate::QueryReply;
 use crate::StartAnswer;
 use crate::StartReply;
 use actions::advance;
-use actions::without_lapsed;
 use binary::size;
 use checkpoint::is_checkpoint;
 use checkpoint::layout::CHECKPOINT_SIZE;
@@ -32,7 +29,6 @@ use checkpoint::state_in;
 use checkpoint::write_checkpoint;
 use page::layout::LINE_SIZE;
 use page::write_page;
-use records::Announcement;
 use records::AnnouncementRead;
 use records::QueryRead;
 use records::Start;
@@ -41,10 +37,15 @@ use records::is_sheet;
 use records::read_announcement;
 use records::read_query;
 use records::read_start;
+use rules::find;
 use state::Day;
+use state::NO_SEAT;
 use state::State;
 use state::blank_state;
+use state::limits::SEATS;
 use tables::logins::count_logins;
+use tables::proposals::drop_lapsed;
+use tables::proposals::has_lapsed;
 use verdicts::Own;
 use verdicts::deliver_refusal;
 use verdicts::own_afresh;
@@ -64,17 +65,13 @@ fn refuse_delivery(n: Node, number: u8) -> DeliverReply
     }
 }
 
-// The announcement performed, on the state that its rules and its action see.
-fn perform_delivery(seen: State, own: Own, a: Announcement) -> DeliverReply
-    ensures { λ r. ⌜ r ≡ leaves (advance seen a) own ⌝ }
+// Done, with this state.
+fn leave(state: State, own: Own) -> DeliverReply
+    ensures { λ r. ⌜ r ≡ leaves state own ⌝ }
 {
-    let next = advance(seen, a);
     let afresh = own_afresh(own.seat, own.life);
     DeliverReply {
-        node: Node {
-            state: next,
-            own: afresh,
-        },
+        node: Node { state, own: afresh },
         answer: DeliverAnswer::Done,
     }
 }
@@ -127,28 +124,6 @@ fn start_read(s: State, x: Start) -> StartReply
         node: Node { state: s, own },
         answer: StartAnswer::Started,
     }
-}
-
-// A well-formed announcement with a well-formed sheet. Only here are lapsed proposals dropped: a refusal and a vote hand back the node as it was.
-fn deliver_read(n: Node, announcement: &[u8], a: Announcement, sheet: &[u8]) -> DeliverReply
-    requires { ⌜ (length (now announcement) ≡ announcementSize) × (isSheet (now sheet) ≡ true) ⌝ }
-    ensures { λ r. ⌜ r ≡ deliverRead n (now (announcement .entry)) a (now (sheet .entry)) ⌝ }
-{
-    let state = n.state;
-    let own = n.own;
-    let seen = without_lapsed(state, a.day);
-    let k = deliver_refusal(seen, own, a, sheet);
-    if k != 0 {
-        return refuse_delivery(n, k);
-    }
-    if shows_quorum(state, sheet) {
-        return perform_delivery(seen, own, a);
-    }
-    let v = vote_refusal(state, own, announcement);
-    if v != 0 {
-        return refuse_delivery(n, v);
-    }
-    vote_for(n, announcement)
 }
 
 // The reply to a query that leaves the node with this many misses.
@@ -204,7 +179,9 @@ impl Node {
         refuse_start(1)
     }
 
-    // Performs the announcement where the sheet shows a quorum, else votes for it.
+    // Performs the announcement where the sheet shows a quorum, else votes for it. The rules and the action see the state without the proposals
+    // that have lapsed by the announced day; a refusal and a vote hand back the node as it was. The own seat is read off the state itself: behind
+    // a function that takes the state or the seats, the compiler splits the state and copies it part by part.
     pub fn deliver(self, announcement: &[u8], sheet: &[u8]) -> DeliverReply
         ensures { λ r. ⌜ r ≡ deliverOf self (now (announcement .entry)) (now (sheet .entry)) ⌝ }
     {
@@ -212,10 +189,33 @@ impl Node {
         let AnnouncementRead::Read(a) = read else {
             return refuse_delivery(self, 1);
         };
-        if is_sheet(sheet) {
-            return deliver_read(self, announcement, a, sheet);
+        if !is_sheet(sheet) {
+            return refuse_delivery(self, 2);
         }
-        refuse_delivery(self, 2)
+        let action = a.action;
+        let own = self.own;
+        let mut seen = self.state;
+        let rows = seen.proposals;
+        if has_lapsed(rows, a.day) {
+            let kept = drop_lapsed(rows, a.day);
+            seen.proposals = kept;
+        }
+        let at = own.seat as usize;
+        let held = if at < SEATS { seen.seats[at] } else { NO_SEAT };
+        let found = find(seen, a.day, action);
+        let k = deliver_refusal(seen, found, held, a, sheet);
+        if k != 0 {
+            return refuse_delivery(self, k);
+        }
+        if shows_quorum(seen, found.present, sheet) {
+            let next = advance(seen, found, a);
+            return leave(next, own);
+        }
+        let v = vote_refusal(held, own, announcement);
+        if v != 0 {
+            return refuse_delivery(self, v);
+        }
+        vote_for(self, announcement)
     }
 
     // May the login use the right on the day?

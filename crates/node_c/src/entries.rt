@@ -27,6 +27,7 @@ use roster::export_grant;
 use roster::import_roster;
 use state::Cycle;
 use state::Day;
+use state::State;
 use verdicts::Own;
 
 // Each answer's number.
@@ -118,15 +119,15 @@ fn hand_on(state: &[u8], own: Own, k: u32, out: &mut [u8]) -> u32
     number
 }
 
-// For C, what a delivery handed back that performed: the image is of the whole node.
-fn hand_out(n: Node, out: &mut [u8]) -> u32
-    ensures { λ r. ⌜ r ≡ return (record { node = n; number = 0 }) (now (out .entry)) .number ⌝ }
-    ensures { λ r. ⌜ now (out .exit) ≡ return (record { node = n; number = 0 }) (now (out .entry)) .slice ⌝ }
+// For C, what a delivery handed back that performed: the image is of the whole node, which comes in its two parts, so that neither is copied.
+fn hand_out(state: State, own: Own, out: &mut [u8]) -> u32
+    ensures { λ r. ⌜ r ≡ return (record { node = record { state = state; own = own }; number = 0 }) (now (out .entry)) .number ⌝ }
+    ensures { λ r. ⌜ now (out .exit) ≡ return (record { node = record { state = state; own = own }; number = 0 }) (now (out .entry)) .slice ⌝ }
 {
     if out.len() < IMAGE_SIZE {
         return 22;
     }
-    write_image(n, out);
+    write_image(state, own, out);
     0
 }
 
@@ -158,7 +159,9 @@ pub extern "C" fn node_deliver(
         let answer = r.answer;
         let k = deliver_number(answer);
         if k == 0 {
-            return hand_out(node, out);
+            let state = node.state;
+            let own = node.own;
+            return hand_out(state, own, out);
         }
         return hand_on(&image[0..CHECKPOINT_SIZE], node.own, k, out);
     }

@@ -1,23 +1,25 @@
 -- The rows of a sheet where they lie in its bytes: row i starts at index 7 + 5 i.
 use mathlib.Core.Path.{_≡_, refl, sym, _∙_}
-use mathlib.Core.Bool.{Bool, true, false, _&&_, _||_, and-eq-true-iff, and-false, or-false, and-or-distrib-left}
+use mathlib.Core.Bool.{Bool, true, false, cond, _&&_, _||_, and-eq-true-iff, and-true, and-false, or-false, or-assoc, and-or-distrib-left}
 use mathlib.Core.List.{List, _∷_}
-use Prim.Native.Nat.{ℕ, _+_, _*_, _≤_, _<_}
+use Prim.Native.Nat.{ℕ, _+_, _*_, _%_, _^_, _≤_, _<_}
 use native.Mathlib.Nat.{add-zero, add-assoc, mul-comm}
 use native.Mathlib.Numerals.{add-one}
 use native.Mathlib.Omega.{arith}
 use lib.Dec.{eqb, ltb}
-use lib.ListN.{length, getD, drop, set, replicate, length-set, drop-of-length-le}
+use lib.ListN.{length, getD, drop, drop-of-length-le}
+use lib.Bits.{bitOr}
 use lib.Seq.{drop-cons, drop-drop, getD-drop}
-use borrow.Author.Tests.{eqb-true, leb-true, ltb-true, eq-eqb, ne-eqb}
+use borrow.Author.Tests.{eqb-true, leb-true, ltb-true}
 use Rattle.lists.specs.Fold.{any}
 use Rattle.lists.proofs.Every.{all-of, all-getD}
-use Rattle.lists.proofs.Marks.{no-marks, mark}
 use Rattle.binary.specs.Number.{byteAt, field}
 use Rattle.binary.proofs.Rows.{row-at, length-decodeRows}
 use Rattle.state.specs.declared.Seat.{Seat}
 use Rattle.state.specs.Seats.{isPresent, seatAt}
 use Rattle.records.specs.Sheet.{Row, row, rowsOf, isSheet, names, counts}
+use Rattle.records.specs.Code.{testBit}
+use Rattle.records.proofs.Bits.{no-bits, bit-or, bit-shifted}
 
 -- the row for an index that the sheet does not have
 abbrev pub noRow : Row
@@ -59,35 +61,50 @@ module _ (b : List ℕ) (seats : List Seat) where
   abbrev countsFrom : ℕ → ℕ → Bool
   countsFrom i k = counts (drop i (rowsOf b)) k (seatAt k seats)
 
-  -- The loop that marks the seats which count, after i of the n rows: a seat is marked or counts on the rows that are left exactly where it counts on
-  -- all.
-  pub record Seen (n i : ℕ) (seen : List Bool) : Type 0 where
+  -- a row that names seat j under this life hits it
+  abbrev hits : ℕ → ℕ → Bool
+  hits j life = isPresent (seatAt j seats) && eqb life (seatAt j seats .life)
+
+  -- The loop that marks the seats which count, bit k for seat k, after i of the n rows: a seat is marked or counts on the rows that are left exactly
+  -- where it counts on all.
+  pub record Seen (n i seen : ℕ) : Type 0 where
     pub sheet : Sheet b
     pub rows : n ≡ byteAt 6 b
-    pub long : length seen ≡ 32
-    pub marks : (k : ℕ) → (getD seen k false || countsFrom i k) ≡ counts (rowsOf b) k (seatAt k seats)
+    pub marks : (k : ℕ) → (testBit seen k || countsFrom i k) ≡ counts (rowsOf b) k (seatAt k seats)
 
-  pub seen-start : (n : ℕ) → isSheet b ≡ true → n ≡ byteAt 6 b → Seen n 0 (replicate 32 false)
-  seen-start n e h = record { sheet = sheet-of b e; rows = h; long = refl; marks = λ k. rw (no-marks 32 k) }
+  pub seen-start : (n : ℕ) → isSheet b ≡ true → n ≡ byteAt 6 b → Seen n 0 0
+  seen-start n e h = record { sheet = sheet-of b e; rows = h; marks = λ k. rw (no-bits k) }
 
-  -- what row i tells of seat k
-  split : (i k : ℕ) → i < byteAt 6 b
-      → countsFrom i k ≡ ((isPresent (seatAt k seats) &&
-      (eqb (byteAt (7 + 5 * i) b) k && eqb (field 4 (7 + 5 * i + 1) b) (seatAt k seats .life))) || countsFrom (i + 1) k)
-  split i k h = rw (add-one i, drop-cons (rowsOf b) i noRow (rw sheet-rows h), sheet-row b i h) (counts-row _ _ k (seatAt k seats))
+  -- The seat that the row names is the only one that it hits.
+  only-named : (j k life : ℕ) → (isPresent (seatAt k seats) && (eqb j k && eqb life (seatAt k seats .life))) ≡ (hits j life && eqb j k)
+  only-named j k life = at (eqb j k) refl
+    where
+      at : (t : Bool) → eqb j k ≡ t → (isPresent (seatAt k seats) && (eqb j k && eqb life (seatAt k seats .life))) ≡ (hits j life && eqb j k)
+      at true e = rw (e, eqb-true j k e) (sym (and-true _))
+      at false e = rw (e, and-false (isPresent (seatAt k seats)), and-false (hits j life))
 
-  pub seen-turn : (n i j life : ℕ) (seen : List Bool) → Seen n i seen → i < n → j ≡ byteAt (7 + 5 * i) b → life ≡ field 4 (7 + 5 * i + 1) b
-      → Seen n (i + 1) (set seen j (getD seen j false || (isPresent (seatAt j seats) && eqb life (seatAt j seats .life))))
-  seen-turn n i j life seen s h p q =
-      let l : i < byteAt 6 b = omega arith in
+  -- what row i, which names seat j under this life, tells of seat k
+  split : (i j life k : ℕ) → i < byteAt 6 b → j ≡ byteAt (7 + 5 * i) b → life ≡ field 4 (7 + 5 * i + 1) b
+      → countsFrom i k ≡ ((hits j life && eqb j k) || countsFrom (i + 1) k)
+  split i j life k h p q =
+      rw (add-one i, drop-cons (rowsOf b) i noRow (rw sheet-rows h), sheet-row b i h, ← p, ← q, ← only-named j k life)
+      (counts-row _ _ k (seatAt k seats))
+
+  pub seen-turn : (n i j life hit seen : ℕ) → Seen n i seen → i < n → j ≡ byteAt (7 + 5 * i) b → life ≡ field 4 (7 + 5 * i + 1) b
+      → hit ≡ cond (hits j life) 1 0 → Seen n (i + 1) (bitOr seen ((hit * 2 ^ j) % 2 ^ 32))
+  seen-turn n i j life hit seen s l p q e =
+      let h : i < byteAt 6 b = omega arith in
+      let m : j < 32 = omega (arith, s .sheet .seat i h) in
       record {
         sheet = s .sheet;
         rows = s .rows;
-        long = simp length-set (s .long);
-        marks = λ k. mark seen j _ (countsFrom i) (countsFrom (i + 1)) (omega (arith, s .sheet .seat i l))
-            (split i j l ∙ rw (← p, ← q, eq-eqb j j refl))
-            (λ k e. split i k l ∙ rw (← p, ne-eqb j k (λ o. e (sym o)), and-false)) k
-            ∙ s .marks k;
+        marks = λ k. rw (
+          e,
+          bit-or seen ((cond (hits j life) 1 0 * 2 ^ j) % 2 ^ 32) k,
+          bit-shifted (hits j life) j k m,
+          or-assoc (testBit seen k) (hits j life && eqb j k) (countsFrom (i + 1) k),
+          ← split i j life k h p q,
+        ) (s .marks k);
       }
 
   -- past the last row no seat counts on what is left
@@ -95,5 +112,5 @@ module _ (b : List ℕ) (seats : List Seat) where
   unfolding counts any
   none-left i k h = rw (drop-of-length-le (rowsOf b) {i = i} (rw sheet-rows h)) (and-false (isPresent (seatAt k seats)))
 
-  pub seen-end : (n i : ℕ) (seen : List Bool) → Seen n i seen → n ≤ i → (k : ℕ) → getD seen k false ≡ counts (rowsOf b) k (seatAt k seats)
+  pub seen-end : (n i seen : ℕ) → Seen n i seen → n ≤ i → (k : ℕ) → testBit seen k ≡ counts (rowsOf b) k (seatAt k seats)
   seen-end n i seen s h k = sym (rw (none-left i k (omega arith)) (or-false _)) ∙ s .marks k

@@ -3,6 +3,7 @@ use Prim.Native.Nat.{ℕ}
 use mathlib.Core.Bool.{cond, _||_}
 use lib.Dec.{eqb}
 use Rattle.state.specs.declared.Subject.{Subject}
+use Rattle.state.specs.Limits.{seatCount}
 use Rattle.state.specs.Kinds.{kindPropose, kindCancel, kindPresents, kindCertify, kindMinima, kindRemove, kindRejoin, kindGrant, kindEnd}
 use Rattle.state.specs.Subjects.{certifies, setsMinima, removes, noSubject}
 use Rattle.records.specs.declared.Action.{Action}
@@ -35,3 +36,15 @@ subjectOf (Remove i) = removes i
 subjectOf (Rejoin i life) = noSubject
 subjectOf (Grant x) = noSubject
 subjectOf (End login) = noSubject
+
+-- the seat that the action names, and one above the last for the kinds that name none
+abbrev pub seatOf : Action → ℕ
+seatOf (Propose x) = seatCount
+seatOf (Cancel c) = seatCount
+seatOf (Presents i flag) = i
+seatOf (Certify i life) = i
+seatOf (Minima x) = seatCount
+seatOf (Remove i) = i
+seatOf (Rejoin i life) = i
+seatOf (Grant x) = seatCount
+seatOf (End login) = seatCount

@@ -4,4 +4,5 @@ pub mod Actions
 pub mod Announcement
 pub mod Sheet
 pub mod StartQuery
+pub mod Code
 pub mod Claims

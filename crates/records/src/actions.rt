@@ -1,6 +1,6 @@
-// What is chosen by the case of an action: its kind number, and the subject of the notice that it needs.
+// What is chosen by the case of an action: its kind number, the subject of the notice that it needs, and the seat that it names.
 ghost use mathlib.Core.Path.{_≡_};
-ghost use Rattle.records.specs.Actions.{kindOf, subjectOf};
+ghost use Rattle.records.specs.Actions.{kindOf, subjectOf, seatOf};
 use super::Action;
 use state::Subject;
 use state::kinds::CANCEL;
@@ -12,6 +12,7 @@ use state::kinds::PRESENTS;
 use state::kinds::PROPOSE;
 use state::kinds::REJOIN;
 use state::kinds::REMOVE;
+use state::limits::SEAT_NUMBERS;
 use state::subjects::NO_SUBJECT;
 use state::subjects::certifies;
 use state::subjects::removes;
@@ -48,6 +49,23 @@ impl Action {
             Action::Rejoin { seat, life } => NO_SUBJECT,
             Action::Grant { row } => NO_SUBJECT,
             Action::End { login } => NO_SUBJECT,
+        }
+    }
+
+    // One above the last seat where the action names none.
+    pub fn seat(self) -> u8
+        ensures { λ r. ⌜ r ≡ seatOf self ⌝ }
+    {
+        match self {
+            Action::Propose { subject } => SEAT_NUMBERS,
+            Action::Cancel { cycle } => SEAT_NUMBERS,
+            Action::Presents { seat, flag } => seat,
+            Action::Certify { seat, life } => seat,
+            Action::Minima { minima } => SEAT_NUMBERS,
+            Action::Remove { seat } => seat,
+            Action::Rejoin { seat, life } => seat,
+            Action::Grant { row } => SEAT_NUMBERS,
+            Action::End { login } => SEAT_NUMBERS,
         }
     }
 }

@@ -12,8 +12,8 @@ mod sheets;
 mod start_query;
 
 pub use announcements::read_announcement;
-pub use sheets::counted_seats;
 pub use sheets::is_sheet;
+pub use sheets::reaches_quorum;
 pub use start_query::read_query;
 pub use start_query::read_start;
 

@@ -13,16 +13,17 @@ use state::limits::SEAT_NUMBERS;
 use state::limits::SEATS;
 use state::seats::PRESENT;
 ghost use mathlib.Core.Path.{_≡_};
-ghost use mathlib.Core.Bool.{true, false, cond};
+ghost use mathlib.Core.Bool.{true, cond};
 ghost use Prim.Native.Nat.{ℕ, _+_, _*_, _≤_};
-ghost use lib.Dec.{ltb};
-ghost use lib.ListN.{length, getD};
-ghost use Rattle.lists.specs.Fold.{all, count};
+ghost use lib.Dec.{ltb, leb};
+ghost use lib.ListN.{length};
+ghost use Rattle.lists.specs.Fold.{all};
 ghost use Rattle.state.specs.Limits.{seatCount};
 ghost use Rattle.state.specs.Seats.{seatAt};
 ghost use Rattle.binary.specs.Number.{byteAt};
 ghost use Rattle.records.specs.Layout.{sheetHead, rowSize};
 ghost use Rattle.records.specs.Sheet.{rowsOf, isSheet, counts, countedSeats};
+ghost use Rattle.records.specs.Code.{testBit};
 
 // The seat of every row is below 32.
 fn are_rows(b: &[u8]) -> bool
@@ -58,50 +59,37 @@ pub fn is_sheet(b: &[u8]) -> bool
     }
 }
 
-// Which seats count on the rows: one pass, in which a row marks the seat that it names.
-fn seen_seats(b: &[u8], seats: [Seat; SEATS]) -> [bool; SEATS]
+// 1 where the test passes, else 0.
+fn one_if(b: bool) -> u32
+    ensures { λ r. ⌜ r ≡ cond b 1 0 ⌝ }
+{
+    if b { 1 } else { 0 }
+}
+
+// Which seats count on the rows, bit k for seat k: one pass, in which a row marks the seat that it names. To mark a seat again costs less than a test.
+fn seen_seats(b: &[u8], seats: [Seat; SEATS]) -> u32
     requires { ⌜ isSheet (now b) ≡ true ⌝ }
-    ensures { λ r. ⌜ ((k : ℕ) → getD r k false ≡ counts (rowsOf (now (b .entry))) k (seatAt k seats)) ⌝ }
+    ensures { λ r. ⌜ ((k : ℕ) → testBit r k ≡ counts (rowsOf (now (b .entry))) k (seatAt k seats)) ⌝ }
 {
     let n = size(b[6]);
-    let mut seen = [false; SEATS];
+    let mut seen: u32 = 0;
     let mut i: usize = 0;
     while i < n {
         let at = SHEET_HEAD + ROW_SIZE * i;
         let k = size(b[at]);
         let life = u32_at(b, at + 1);
         let seat = seats[k];
-        let hit = (seat.standing == PRESENT) & (life == seat.life);
-        seen[k] = seen[k] | hit;
+        let hit = one_if((seat.standing == PRESENT) & (life == seat.life));
+        seen = seen | (hit << (k as u32));
         i += 1;
     }
     seen
 }
 
-// 1 where the test passes, else 0.
-fn one_if(b: bool) -> u8
-    ensures { λ r. ⌜ r ≡ cond b 1 0 ⌝ }
-{
-    if b { 1 } else { 0 }
-}
-
-// The number of true entries.
-fn count_seen(seen: [bool; SEATS]) -> u8
-    ensures { λ r. ⌜ r ≡ count (λ x. x) seen ⌝ }
-{
-    let mut n: u8 = 0;
-    let mut i: usize = 0;
-    while i < SEATS {
-        n += one_if(seen[i]);
-        i += 1;
-    }
-    n
-}
-
-// The number of seats that count on the rows, each once.
-pub fn counted_seats(b: &[u8], seats: [Seat; SEATS]) -> u8
+// Whether the seats that count on the rows, each once, reach a quorum.
+pub fn reaches_quorum(b: &[u8], seats: [Seat; SEATS], quorum: u32) -> bool
     requires { ⌜ isSheet (now b) ≡ true ⌝ }
-    ensures { λ r. ⌜ r ≡ countedSeats (rowsOf (now (b .entry))) seats ⌝ }
+    ensures { λ r. ⌜ r ≡ leb quorum (countedSeats (rowsOf (now (b .entry))) seats) ⌝ }
 {
-    count_seen(seen_seats(b, seats))
+    quorum <= u32::count_ones(seen_seats(b, seats))
 }

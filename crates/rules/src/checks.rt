@@ -7,7 +7,9 @@ ghost use Rattle.state.specs.Limits.{seatCount};
 ghost use Rattle.state.specs.Seats.{certified, present};
 ghost use Rattle.state.specs.declared.Day.{Day};
 ghost use Rattle.records.specs.Actions.{kindOf};
+ghost use Rattle.rules.specs.Code.{FindsSeats};
 ghost use Rattle.rules.specs.Rules.{quorumRefusal, presentWithout, checkRefusal};
+use crate::Found;
 use records::Action;
 use refusals::or_else;
 use refusals::refuse_if;
@@ -17,9 +19,7 @@ use state::State;
 use state::seats::CERTIFIED;
 use state::seats::FREE;
 use state::seats::PRESENT;
-use state::seats::present_seats;
 use state::seats::quorum;
-use state::seats::seat_at;
 use tables::logins::is_listed;
 use tables::logins::lacks_row;
 use tables::proposals::has_proposal;
@@ -83,70 +83,65 @@ pub fn cancel_check(s: State, action: Action) -> u8
     refuse_if(!has_proposal(rows, cycle), 13)
 }
 
-pub fn presents_check(s: State, action: Action) -> u8
-    requires { ⌜ kindOf action ≡ kindPresents ⌝ }
+pub fn presents_check(s: State, found: Found, action: Action) -> u8
+    requires { ⌜ (kindOf action ≡ kindPresents) × FindsSeats s action found ⌝ }
     ensures { λ r. ⌜ ((d : Day) → r ≡ checkRefusal s d action) ⌝ }
 {
     let Action::Presents { seat: i, flag } = action else {
         return 1;
     };
-    let seats = s.seats;
     let minima = s.minima;
-    let seat = seat_at(seats, i);
+    let seat = found.seat;
     if seat.standing != fit_standing(flag) {
         return 9;
     }
-    let p = present_after(present_seats(seats), flag);
+    let p = present_after(found.present, flag);
     quorum_refusal(p, minima.margin, minima.least)
 }
 
-pub fn certify_check(s: State, action: Action) -> u8
-    requires { ⌜ kindOf action ≡ kindCertify ⌝ }
+pub fn certify_check(s: State, found: Found, action: Action) -> u8
+    requires { ⌜ (kindOf action ≡ kindCertify) × FindsSeats s action found ⌝ }
     ensures { λ r. ⌜ ((d : Day) → r ≡ checkRefusal s d action) ⌝ }
 {
     let Action::Certify { seat: i, life } = action else {
         return 1;
     };
-    let seats = s.seats;
-    let seat = seat_at(seats, i);
+    let seat = found.seat;
     refuse_if(seat.standing != FREE, 9)
 }
 
-pub fn minima_check(s: State, action: Action) -> u8
-    requires { ⌜ kindOf action ≡ kindMinima ⌝ }
+pub fn minima_check(s: State, found: Found, action: Action) -> u8
+    requires { ⌜ (kindOf action ≡ kindMinima) × FindsSeats s action found ⌝ }
     ensures { λ r. ⌜ ((d : Day) → r ≡ checkRefusal s d action) ⌝ }
 {
     let Action::Minima { minima } = action else {
         return 1;
     };
-    let seats = s.seats;
-    quorum_refusal(present_seats(seats), minima.margin, minima.least)
+    quorum_refusal(found.present, minima.margin, minima.least)
 }
 
-pub fn remove_check(s: State, action: Action) -> u8
-    requires { ⌜ kindOf action ≡ kindRemove ⌝ }
+pub fn remove_check(s: State, found: Found, action: Action) -> u8
+    requires { ⌜ (kindOf action ≡ kindRemove) × FindsSeats s action found ⌝ }
     ensures { λ r. ⌜ ((d : Day) → r ≡ checkRefusal s d action) ⌝ }
 {
     let Action::Remove { seat: i } = action else {
         return 1;
     };
-    let seats = s.seats;
     let minima = s.minima;
-    let seat = seat_at(seats, i);
-    let p = present_without(seat, present_seats(seats));
+    let seat = found.seat;
+    let p = present_without(seat, found.present);
     let unfit = refuse_if(!seat.is_active(), 9);
     or_else(unfit, quorum_refusal(p, minima.margin, minima.least))
 }
 
-pub fn rejoin_check(s: State, action: Action) -> u8
-    requires { ⌜ kindOf action ≡ kindRejoin ⌝ }
+pub fn rejoin_check(s: State, found: Found, action: Action) -> u8
+    requires { ⌜ (kindOf action ≡ kindRejoin) × FindsSeats s action found ⌝ }
     ensures { λ r. ⌜ ((d : Day) → r ≡ checkRefusal s d action) ⌝ }
 {
     let Action::Rejoin { seat: i, life } = action else {
         return 1;
     };
-    let seats = s.seats;
-    let seat = seat_at(seats, i);
+    let seat = found.seat;
     let unfit = refuse_if(!seat.is_active(), 9);
     or_else(unfit, refuse_if(life <= seat.life, 14))
 }

@@ -4,8 +4,11 @@ mod checks;
 ghost use mathlib.Core.Path.{_≡_};
 ghost use Rattle.records.specs.Actions.{subjectOf};
 ghost use Rattle.refusals.specs.Refusals.{lowest, _orElse_};
+ghost use Rattle.rules.specs.Code.{FindsSeats, FindsNotice};
 ghost use Rattle.rules.specs.Rules.{timeRefusal, trusteeRefusal, noticeRefusal, actionRefusal};
 ghost use Rattle.state.specs.Trustees.{isMajority};
+ghost use Rattle.state.specs.declared.Day.{Day};
+ghost use Rattle.state.specs.declared.State.{State};
 use crate::checks::cancel_check;
 use crate::checks::certify_check;
 use crate::checks::end_check;
@@ -23,6 +26,7 @@ use refusals::refuse_if;
 use state::Cycle;
 use state::Day;
 use state::Proposal;
+use state::Seat;
 use state::State;
 use state::kinds::CANCEL;
 use state::kinds::CERTIFY;
@@ -34,9 +38,36 @@ use state::kinds::PROPOSE;
 use state::kinds::REJOIN;
 use state::kinds::REMOVE;
 use state::limits::LAST_CYCLE;
-use state::limits::PROPOSAL_ROWS;
+use state::seats::present_seats;
+use state::seats::seat_at;
 use state::trustees::is_majority;
 use tables::proposals::mature_proposal;
+
+// What the rules ask of the tables and the action uses.
+pub struct Found {
+    // The number of present seats.
+    pub present: u8,
+    // The seat that the action names, free where it names none.
+    pub seat: Seat,
+    // The mature proposal that the action needs, unused where there is none.
+    pub notice: Proposal,
+}
+
+// Looks it up, once for a delivery.
+pub fn find(s: State, d: Day, action: Action) -> Found
+    ensures { λ r. ⌜ FindsSeats s action r × FindsNotice s d action r ⌝ }
+{
+    let seats = s.seats;
+    let rows = s.proposals;
+    let present = present_seats(seats);
+    let seat = seat_at(seats, action.seat());
+    let notice = mature_proposal(rows, action.subject(), d);
+    Found {
+        present,
+        seat,
+        notice,
+    }
+}
 
 // Rules 4 to 7, in this cycle and with this agreed day.
 pub fn time_refusal(now: Cycle, agreed: Day, a: Announcement) -> u8
@@ -64,12 +95,12 @@ fn trustee_refusal(trustees: u8, mask: u8) -> u8
 }
 
 // Rule 10, where the action has a subject.
-fn notice_refusal(rows: [Proposal; PROPOSAL_ROWS], d: Day, action: Action) -> u8
-    ensures { λ r. ⌜ r ≡ noticeRefusal rows d (subjectOf action) ⌝ }
+fn notice_refusal(found: Found, action: Action) -> u8
+    ensures { λ r. ⌜ ((s : State) (d : Day) → FindsNotice s d action found → r ≡ noticeRefusal (s .proposals) d (subjectOf action)) ⌝ }
 {
     let subject = action.subject();
-    let row = mature_proposal(rows, subject, d);
-    refuse_if((subject.kind != 0) & !row.is_used(), 10)
+    let notice = found.notice;
+    refuse_if((subject.kind != 0) & !notice.is_used(), 10)
 }
 
 // No rule applies.
@@ -84,7 +115,8 @@ fn refusal(unsigned: u8, unnoticed: u8, unfit: u8) -> u8
 
 // Rules 8 to 14. One decision on the kind number: each kind names the level of its trustees, whether it needs a notice, and its check;
 // others are malformed.
-pub fn action_refusal(s: State, d: Day, mask1: u8, mask2: u8, action: Action) -> u8
+pub fn action_refusal(s: State, found: Found, d: Day, mask1: u8, mask2: u8, action: Action) -> u8
+    requires { ⌜ FindsSeats s action found × FindsNotice s d action found ⌝ }
     ensures { λ r. ⌜ r ≡ actionRefusal s d mask1 mask2 action ⌝ }
 {
     let kind = action.kind();
@@ -93,23 +125,20 @@ pub fn action_refusal(s: State, d: Day, mask1: u8, mask2: u8, action: Action) ->
     match kind {
         PROPOSE => refusal(level1, NONE, propose_check(s, action)),
         CANCEL => refusal(level1, NONE, cancel_check(s, action)),
-        PRESENTS => refusal(level1, NONE, presents_check(s, action)),
+        PRESENTS => refusal(level1, NONE, presents_check(s, found, action)),
         CERTIFY => {
-            let rows = s.proposals;
-            let notice = notice_refusal(rows, d, action);
-            refusal(level2, notice, certify_check(s, action))
+            let notice = notice_refusal(found, action);
+            refusal(level2, notice, certify_check(s, found, action))
         }
         MINIMA => {
-            let rows = s.proposals;
-            let notice = notice_refusal(rows, d, action);
-            refusal(level2, notice, minima_check(s, action))
+            let notice = notice_refusal(found, action);
+            refusal(level2, notice, minima_check(s, found, action))
         }
         REMOVE => {
-            let rows = s.proposals;
-            let notice = notice_refusal(rows, d, action);
-            refusal(level2, notice, remove_check(s, action))
+            let notice = notice_refusal(found, action);
+            refusal(level2, notice, remove_check(s, found, action))
         }
-        REJOIN => refusal(level1, NONE, rejoin_check(s, action)),
+        REJOIN => refusal(level1, NONE, rejoin_check(s, found, action)),
         GRANT => refusal(level1, NONE, grant_check(s, d, action)),
         END => refusal(level1, NONE, end_check(s, action)),
         _ => 1,

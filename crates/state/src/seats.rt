@@ -1,10 +1,9 @@
 // The seats and the quorum.
 ghost use mathlib.Core.Path.{_≡_};
 ghost use Prim.Native.Nat.{_≤_};
-ghost use Rattle.state.specs.Seats.{seatAt, setSeat, isPresent, isActive, presentSeats, quorum, quorumOf};
+ghost use Rattle.state.specs.Seats.{seatAt, isPresent, isActive, presentSeats, quorum};
 use crate::NO_SEAT;
 use crate::Seat;
-use crate::State;
 use crate::limits::SEATS;
 
 // The standings of a seat.
@@ -56,15 +55,6 @@ pub fn quorum(p: u8, m: u8, k: u8) -> u32
     if majority <= least { least } else { majority }
 }
 
-// The quorum in force.
-pub fn quorum_of(s: State) -> u32
-    ensures { λ r. ⌜ r ≡ quorumOf s ⌝ }
-{
-    let seats = s.seats;
-    let minima = s.minima;
-    quorum(present_seats(seats), minima.margin, minima.least)
-}
-
 // Seat number i, and a free seat where there is none.
 pub fn seat_at(seats: [Seat; SEATS], i: u8) -> Seat
     ensures { λ r. ⌜ r ≡ seatAt i seats ⌝ }
@@ -74,20 +64,4 @@ pub fn seat_at(seats: [Seat; SEATS], i: u8) -> Seat
         return NO_SEAT;
     }
     seats[at]
-}
-
-// The seats with seat i as given, unchanged where there is none.
-pub fn set_seat(seats: [Seat; SEATS], i: u8, standing: u8, life: u32) -> [Seat; SEATS]
-    ensures { λ r. ⌜ r ≡ setSeat i standing life seats ⌝ }
-{
-    let at = i as usize;
-    let mut out = seats;
-    if at < SEATS {
-        out[at] = Seat {
-            standing: standing,
-            life: life,
-        };
-        return out;
-    }
-    out
 }

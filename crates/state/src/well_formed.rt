@@ -1,8 +1,8 @@
 // Which rows of a state are well formed.
 ghost use mathlib.Core.Path.{_≡_};
-ghost use Rattle.lists.specs.Code.{isFilled, isSpare};
+ghost use Rattle.lists.specs.Code.{isFilled};
 ghost use Rattle.state.specs.Rows.{isProposal, isLogin};
-ghost use Rattle.state.specs.WellFormed.{isWellFormedSeat, isIntended, isBlankProposal, hasRights, isBlankLogin};
+ghost use Rattle.state.specs.WellFormed.{isWellFormedSeat, isIntended, hasRights};
 use crate::Cycle;
 use crate::Day;
 use crate::Login;
@@ -35,16 +35,6 @@ impl Proposal {
         let well_formed = subject.is_well_formed();
         self.is_used() & (cycle.is_before(c) & (!d.is_before(day) & well_formed))
     }
-
-    // An unused row, all zero.
-    pub fn is_zero(self) -> bool
-        ensures { λ r. ⌜ r ≡ isSpare isProposal isBlankProposal self ⌝ }
-    {
-        let cycle = self.cycle;
-        let day = self.day;
-        let arguments = self.subject.arguments;
-        !self.is_used() & (cycle.is_same(Cycle(0)) & (day.is_same(Day(0)) & (arguments == 0)))
-    }
 }
 
 impl Login {
@@ -53,13 +43,5 @@ impl Login {
         ensures { λ r. ⌜ r ≡ isFilled isLogin hasRights self ⌝ }
     {
         self.is_used() & (1 <= self.rights)
-    }
-
-    // An unused row, all zero.
-    pub fn is_zero(self) -> bool
-        ensures { λ r. ⌜ r ≡ isSpare isLogin isBlankLogin self ⌝ }
-    {
-        let end = self.end;
-        !self.is_used() & (end.is_same(Day(0)) & (self.rights == 0))
     }
 }

@@ -1,7 +1,7 @@
 // The table of logins.
 ghost use mathlib.Core.Path.{_≡_};
 ghost use Rattle.lists.specs.Fold.{count};
-ghost use Rattle.lists.specs.Code.{indexOf, insertAt};
+ghost use Rattle.lists.specs.Code.{indexOf};
 ghost use Rattle.state.specs.Rows.{isLogin};
 ghost use Rattle.tables.specs.Logins.{loginsFull, findLogin, isListed, lacksRow, grantLogin, endLogin};
 ghost use Rattle.tables.specs.Code.{isPlace};
@@ -65,7 +65,10 @@ pub fn is_listed(rows: [Login; LOGIN_ROWS], login: u32) -> bool
 pub fn lacks_row(rows: [Login; LOGIN_ROWS], login: u32) -> bool
     ensures { λ r. ⌜ r ≡ lacksRow login rows ⌝ }
 {
-    logins_full(rows) & !is_listed(rows, login)
+    if logins_full(rows) {
+        return !is_listed(rows, login);
+    }
+    false
 }
 
 // The index of the row whose place a new row of this login takes, or before which it comes, and the number of rows where there is none.
@@ -83,11 +86,20 @@ fn place_of(rows: [Login; LOGIN_ROWS], login: u32) -> usize
     i
 }
 
-// The table with x before row i; the last row is lost.
-fn insert_at(rows: [Login; LOGIN_ROWS], at: usize, x: Login) -> [Login; LOGIN_ROWS]
-    ensures { λ r. ⌜ r ≡ insertAt at x rows ⌝ }
+// The table with x in the place of the row of its name, or between the others; the last row is then lost.
+pub fn grant_login(rows: [Login; LOGIN_ROWS], x: Login) -> [Login; LOGIN_ROWS]
+    ensures { λ r. ⌜ r ≡ grantLogin x rows ⌝ }
 {
+    let at = place_of(rows, x.login);
     let mut out = rows;
+    if LOGIN_ROWS <= at {
+        return out;
+    }
+    let named = out[at];
+    if named.login == x.login {
+        out[at] = x;
+        return out;
+    }
     let mut next = x;
     let mut i = at;
     while i < LOGIN_ROWS {
@@ -97,23 +109,6 @@ fn insert_at(rows: [Login; LOGIN_ROWS], at: usize, x: Login) -> [Login; LOGIN_RO
         i = i + 1;
     }
     out
-}
-
-// The table with x in the place of the row of its name, or between the others.
-pub fn grant_login(rows: [Login; LOGIN_ROWS], x: Login) -> [Login; LOGIN_ROWS]
-    ensures { λ r. ⌜ r ≡ grantLogin x rows ⌝ }
-{
-    let i = place_of(rows, x.login);
-    if LOGIN_ROWS <= i {
-        return rows;
-    }
-    let row = rows[i];
-    if row.login == x.login {
-        let mut out = rows;
-        out[i] = x;
-        return out;
-    }
-    insert_at(rows, i, x)
 }
 
 // The table without the login.

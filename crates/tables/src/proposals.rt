@@ -1,6 +1,6 @@
 // The table of proposals.
 ghost use mathlib.Core.Path.{_≡_};
-ghost use Rattle.lists.specs.Fold.{count};
+ghost use Rattle.lists.specs.Fold.{any, count};
 ghost use Rattle.state.specs.Rows.{isProposal};
 ghost use Rattle.tables.specs.Proposals.{isOfCycle, isLapsed, isMature, proposalsFull, addProposal, hasProposal, dropProposal, dropLapsed};
 ghost use Rattle.tables.specs.Proposals.{matureProposal};
@@ -115,6 +115,21 @@ pub fn drop_proposal(rows: [Proposal; PROPOSAL_ROWS], c: Cycle) -> [Proposal; PR
         i = i + 1;
     }
     out
+}
+
+// Whether a proposal has lapsed by the announced day.
+pub fn has_lapsed(rows: [Proposal; PROPOSAL_ROWS], announced: Day) -> bool
+    ensures { λ r. ⌜ r ≡ any (isLapsed announced) rows ⌝ }
+{
+    let mut i: usize = 0;
+    while i < PROPOSAL_ROWS {
+        let row = rows[i];
+        if is_lapsed(row, announced) {
+            return true;
+        }
+        i = i + 1;
+    }
+    false
 }
 
 // The table without the proposals that have lapsed by the announced day.

@@ -1,10 +1,12 @@
 // The own part of a node: its seat, its vote.
 ghost use mathlib.Core.Path.{_≡_};
-ghost use mathlib.Core.Bool.{true};
+ghost use mathlib.Core.Bool.{true, _&&_};
+ghost use lib.Dec.{eqb};
 ghost use lib.ListN.{length};
 ghost use Rattle.binary.specs.Number.{isSameBytes};
 ghost use Rattle.records.specs.Layout.{announcementSize};
-ghost use Rattle.verdicts.specs.Own.{heldSeat, isHalted, canVote, votedOtherwise, ownAfresh, withVote, withMisses};
+ghost use Rattle.state.specs.Seats.{retired, isPresent};
+ghost use Rattle.verdicts.specs.Own.{heldSeat, votedOtherwise, ownAfresh, withVote, withMisses};
 use crate::Own;
 use records::layout::ANNOUNCEMENT_SIZE;
 use state::Seat;
@@ -13,7 +15,7 @@ use state::seats::RETIRED;
 use state::seats::seat_at;
 
 // The seat of the own part, as the state lists it.
-fn held_seat(s: State, own: Own) -> Seat
+pub fn held_seat(s: State, own: Own) -> Seat
     ensures { λ r. ⌜ r ≡ heldSeat s own ⌝ }
 {
     let seats = s.seats;
@@ -21,19 +23,17 @@ fn held_seat(s: State, own: Own) -> Seat
 }
 
 // Whether the node's own seat is retired.
-pub fn is_halted(s: State, own: Own) -> bool
-    ensures { λ r. ⌜ r ≡ isHalted s own ⌝ }
+pub fn is_halted(held: Seat) -> bool
+    ensures { λ r. ⌜ r ≡ eqb (held .standing) retired ⌝ }
 {
-    let seat = held_seat(s, own);
-    seat.standing == RETIRED
+    held.standing == RETIRED
 }
 
 // Whether the node's own seat is present under its own life.
-pub fn can_vote(s: State, own: Own) -> bool
-    ensures { λ r. ⌜ r ≡ canVote s own ⌝ }
+pub fn can_vote(held: Seat, own: Own) -> bool
+    ensures { λ r. ⌜ r ≡ (isPresent held && eqb (held .life) (own .life)) ⌝ }
 {
-    let seat = held_seat(s, own);
-    seat.is_present() & (seat.life == own.life)
+    held.is_present() & (held.life == own.life)
 }
 
 // Whether the vote has these 24 bytes.

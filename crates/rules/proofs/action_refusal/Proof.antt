@@ -32,7 +32,7 @@ refusal-requires-2 : tie.Need-refusal-requires-2
 refusal-requires-2 c κs = search needs
 
 presents-check-requires : tie.Need-presents-check-requires
-presents-check-requires c κs = of-kind (c .before .before .before) (c .match .keys3)
+presents-check-requires c κs = (of-kind (c .before .before .before) (c .match .keys3), c .before .before .before .before .pre .0)
 
 refusal-requires-3 : tie.Need-refusal-requires-3
 refusal-requires-3 c κs = search needs
@@ -41,7 +41,7 @@ notice-refusal-requires : tie.Need-notice-refusal-requires
 notice-refusal-requires c κs = search needs
 
 certify-check-requires : tie.Need-certify-check-requires
-certify-check-requires c κs = of-kind (c .before .before .before .before .before) (c .before .before .match .keys4)
+certify-check-requires c κs = (of-kind (c .before .before .before .before) (c .before .match .keys4), c .before .before .before .before .before .pre .0)
 
 refusal-requires-4 : tie.Need-refusal-requires-4
 refusal-requires-4 c κs = search needs
@@ -50,7 +50,7 @@ notice-refusal-requires-2 : tie.Need-notice-refusal-requires-2
 notice-refusal-requires-2 c κs = search needs
 
 minima-check-requires : tie.Need-minima-check-requires
-minima-check-requires c κs = of-kind (c .before .before .before .before .before) (c .before .before .match .keys5)
+minima-check-requires c κs = (of-kind (c .before .before .before .before) (c .before .match .keys5), c .before .before .before .before .before .pre .0)
 
 refusal-requires-5 : tie.Need-refusal-requires-5
 refusal-requires-5 c κs = search needs
@@ -59,13 +59,13 @@ notice-refusal-requires-3 : tie.Need-notice-refusal-requires-3
 notice-refusal-requires-3 c κs = search needs
 
 remove-check-requires : tie.Need-remove-check-requires
-remove-check-requires c κs = of-kind (c .before .before .before .before .before) (c .before .before .match .keys6)
+remove-check-requires c κs = (of-kind (c .before .before .before .before) (c .before .match .keys6), c .before .before .before .before .before .pre .0)
 
 refusal-requires-6 : tie.Need-refusal-requires-6
 refusal-requires-6 c κs = search needs
 
 rejoin-check-requires : tie.Need-rejoin-check-requires
-rejoin-check-requires c κs = of-kind (c .before .before .before) (c .match .keys7)
+rejoin-check-requires c κs = (of-kind (c .before .before .before) (c .match .keys7), c .before .before .before .before .pre .0)
 
 refusal-requires-7 : tie.Need-refusal-requires-7
 refusal-requires-7 c κs = search needs
@@ -121,40 +121,40 @@ returns-3 c =
 returns-4 : tie.Need-returns-4
 returns-4 c =
     let check = c .before in
-    let arm = check .before .before .before in
+    let arm = check .before .before in
     let levels = arm .before in
     let kind = levels .before .before in
     let start = kind .before in
     let e = of-kind kind (arm .match .keys4) in
     let notice = check .before in
     judged _ _ _ _ (start .args .action) 4 _ _ _ _ e (levels .trustee-refusal2 .ensures)
-    (notice .notice-refusal .ensures) (check .certify-check .ensures (start .args .d))
+    (notice .notice-refusal .ensures (start .args .s) (start .args .d) (start .pre .1)) (check .certify-check .ensures (start .args .d))
     (c .refusal4 .ensures)
 
 returns-5 : tie.Need-returns-5
 returns-5 c =
     let check = c .before in
-    let arm = check .before .before .before in
+    let arm = check .before .before in
     let levels = arm .before in
     let kind = levels .before .before in
     let start = kind .before in
     let e = of-kind kind (arm .match .keys5) in
     let notice = check .before in
     judged _ _ _ _ (start .args .action) 5 _ _ _ _ e (levels .trustee-refusal2 .ensures)
-    (notice .notice-refusal2 .ensures) (check .minima-check .ensures (start .args .d))
+    (notice .notice-refusal2 .ensures (start .args .s) (start .args .d) (start .pre .1)) (check .minima-check .ensures (start .args .d))
     (c .refusal5 .ensures)
 
 returns-6 : tie.Need-returns-6
 returns-6 c =
     let check = c .before in
-    let arm = check .before .before .before in
+    let arm = check .before .before in
     let levels = arm .before in
     let kind = levels .before .before in
     let start = kind .before in
     let e = of-kind kind (arm .match .keys6) in
     let notice = check .before in
     judged _ _ _ _ (start .args .action) 6 _ _ _ _ e (levels .trustee-refusal2 .ensures)
-    (notice .notice-refusal3 .ensures) (check .remove-check .ensures (start .args .d))
+    (notice .notice-refusal3 .ensures (start .args .s) (start .args .d) (start .pre .1)) (check .remove-check .ensures (start .args .d))
     (c .refusal6 .ensures)
 
 returns-7 : tie.Need-returns-7

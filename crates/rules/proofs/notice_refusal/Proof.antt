@@ -6,9 +6,6 @@ use Rattle.rules.proofs.notice_refusal.Tie as tie
 subject-requires : tie.Need-subject-requires
 subject-requires c κs = search needs
 
-mature-proposal-requires : tie.Need-mature-proposal-requires
-mature-proposal-requires c κs = search needs
-
 is-used-requires : tie.Need-is-used-requires
 is-used-requires c κs = search needs
 
@@ -17,10 +14,9 @@ refuse-if-requires c κs = search needs
 
 returns : tie.Need-returns
 unfolding noticeRefusal
-returns c =
-    let row = c .before .before .before in
-    rw (← row .before .subject .ensures, ← row .mature-proposal .ensures, ← c .before .is-used .ensures) (c .refuse-if .ensures)
+returns c s d found =
+    let used = c .before in
+    rw (← found, ← used .before .before .before .subject .ensures, ← used .is-used .ensures) (c .refuse-if .ensures)
 
 pub notice-refusal-spec : {M : Type 1} → statement M
-notice-refusal-spec =
-    tie.close (tie.spec subject-requires mature-proposal-requires is-used-requires refuse-if-requires returns)
+notice-refusal-spec = tie.close (tie.spec subject-requires is-used-requires refuse-if-requires returns)

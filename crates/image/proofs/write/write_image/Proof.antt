@@ -6,20 +6,20 @@ use denote.Ref.{now}
 use lib.ListN.{length}
 use Rattle.binary.proofs.Splices.{then-put, splice-overwrite}
 use Rattle.checkpoint.proofs.Written.{checkpoint-size}
-use Rattle.image.proofs.OwnParts.{mapped-length}
+use Rattle.lists.proofs.Tables.{mapped-length}
 use Rattle.image.specs.Image.{imageBytes}
 use borrow.Author.Needs.{needs}
 use Rattle.image.proofs.write.write_image.Statement.{statement}
 use Rattle.image.proofs.write.write_image.Tie as tie
 
 -- The number of rows of each table.
-seat-rows : (c : tie.Start) → length (c .args .n .state .seats) ≡ seatCount
+seat-rows : (c : tie.Start) → length (c .args .state .seats) ≡ seatCount
 seat-rows c = search (needs, mapped-length)
 
-proposal-rows : (c : tie.Start) → length (c .args .n .state .proposals) ≡ proposalRows
+proposal-rows : (c : tie.Start) → length (c .args .state .proposals) ≡ proposalRows
 proposal-rows c = search (needs, mapped-length)
 
-login-rows : (c : tie.Start) → length (c .args .n .state .logins) ≡ loginRows
+login-rows : (c : tie.Start) → length (c .args .state .logins) ≡ loginRows
 login-rows c = search (needs, mapped-length)
 
 write-checkpoint-requires : tie.Need-write-checkpoint-requires
@@ -39,7 +39,7 @@ returns c =
     let z = k .before .before .before in
     let a = z .args in
     let d = now (a .out) in
-    let l = checkpoint-size (a .n .state) (seat-rows z) (proposal-rows z) (login-rows z) in
+    let l = checkpoint-size (a .state) (seat-rows z) (proposal-rows z) (login-rows z) in
     then-put d _ _ _ _ 0 ownAt (o .put-own .ensures) (k .write-checkpoint .ensures ∙ sym (splice-overwrite d _)) (omega arith) (omega arith)
     ∙ splice-overwrite d _
 

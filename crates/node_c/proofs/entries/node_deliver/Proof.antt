@@ -51,7 +51,7 @@ same-length c = search needs
 returns : tie.Need-returns
 unfolding nodeDeliver
 returns c =
-    let t = c .before .before .before .before in
+    let t = c .before .before .before .before .before .before in
     let k = t .before in
     let d = k .before .before in
     rw (

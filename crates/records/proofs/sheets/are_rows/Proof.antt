@@ -7,8 +7,7 @@ use borrow.Author.Needs.{needs}
 use borrow.Author.Tests.{lt-ltb, le-ltb}
 use denote.Ref.{now}
 use Rattle.lists.specs.Fold.{all}
-use Rattle.lists.proofs.Marks.{all-turn}
-use Rattle.lists.proofs.Loops.{all-end}
+use Rattle.lists.proofs.Loops.{all-turn, all-end}
 use Rattle.binary.specs.Number.{byteAt}
 use Rattle.records.specs.Sheet.{rowsOf}
 use Rattle.records.proofs.SheetRows.{noRow, sheet-rows, sheet-row}

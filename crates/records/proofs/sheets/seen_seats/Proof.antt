@@ -53,11 +53,14 @@ mul-seat c = omega (arith, below (c .before))
 array-copy-out-seat : tie.Need-array-copy-out-seat Inv-loop μ-loop
 array-copy-out-seat c = below (c .before)
 
-array-read-seen : tie.Need-array-read-seen Inv-loop μ-loop
-array-read-seen c = below (c .before .before .before .before)
+one-if-requires : tie.Need-one-if-requires Inv-loop μ-loop
+one-if-requires c κs = search needs
 
-array-write-seen : tie.Need-array-write-seen Inv-loop μ-loop
-array-write-seen c = below (c .before .before .before .before)
+cast-seen : tie.Need-cast-seen Inv-loop μ-loop
+cast-seen c = omega (arith, below (c .before .before .before .before .before))
+
+shl-seen : tie.Need-shl-seen Inv-loop μ-loop
+shl-seen c = below (c .before .before .before .before .before)
 
 add-i : tie.Need-add-i Inv-loop μ-loop
 add-i c = search needs
@@ -67,12 +70,12 @@ loop-less c = search needs
 
 loop-again : tie.Need-loop-again Inv-loop μ-loop
 loop-again c =
-    let r = c .before .before .before in
+    let r = c .before .before .before .before in
     let l = r .before .before .before .before in
     let s = l .before .before .before .before in
-    seen-turn (now (s .args .b)) (s .args .t2) (l .before .size .result) (l .loop .i) (r .before .size2 .result) (r .u32-at .result) (l .loop .seen)
-    (l .loop .inv)
-    (r .before .before .before .loop-test .taken) (r .before .size2 .ensures) (r .u32-at .ensures)
+    seen-turn (now (s .args .b)) (s .args .t2) (l .before .size .result) (l .loop .i) (r .before .size2 .result) (r .u32-at .result)
+    (c .one-if .result) (l .loop .seen) (l .loop .inv)
+    (r .before .before .before .loop-test .taken) (r .before .size2 .ensures) (r .u32-at .ensures) (c .one-if .ensures)
 
 returns : tie.Need-returns Inv-loop μ-loop
 returns c =
@@ -97,8 +100,9 @@ seen-seats-spec =
     u32-at-requires
     mul-seat
     array-copy-out-seat
-    array-read-seen
-    array-write-seen
+    one-if-requires
+    cast-seen
+    shl-seen
     add-i
     loop-less
     loop-again

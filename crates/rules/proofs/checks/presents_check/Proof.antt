@@ -1,6 +1,7 @@
 use borrow.Author.Tests.{eq-eqb, ne-eqb}
 use Rattle.rules.specs.Rules.{checkRefusal}
 use Rattle.rules.proofs.CaseKinds.{other-case}
+use Rattle.rules.proofs.Finding.{of-case}
 use borrow.Author.Needs.{needs}
 use Rattle.rules.proofs.checks.presents_check.Statement.{statement}
 use Rattle.rules.proofs.checks.presents_check.Tie as tie
@@ -9,10 +10,7 @@ enum-known-action : tie.Need-enum-known-action
 enum-known-action c = search needs
 
 returns : tie.Need-returns
-returns c d = absurd (other-case (c .before .args .action) 2 (c .before .pre) (tt {0}) (c .match .keys2))
-
-seat-at-requires : tie.Need-seat-at-requires
-seat-at-requires c κs = search needs
+returns c d = absurd (other-case (c .before .args .action) 2 (c .before .pre .0) (tt {0}) (c .match .keys2))
 
 fit-standing-requires : tie.Need-fit-standing-requires
 fit-standing-requires c κs = search needs
@@ -21,11 +19,10 @@ returns-2 : tie.Need-returns-2
 unfolding checkRefusal
 returns-2 c d =
     let fit = c .before .before in
-    let seat = fit .before in
-    rw (seat .before .before .before .before .action .given .1, ← seat .seat-at .ensures, ← fit .fit-standing .ensures, ne-eqb _ _ (c .if1 .taken))
-
-present-seats-requires : tie.Need-present-seats-requires
-present-seats-requires c κs = search needs
+    let case = fit .before .before .before .before in
+    let start = case .before .before in
+    let f = of-case (start .args .s) (start .args .found) (case .action .given .1) (start .pre .1) in
+    rw (case .action .given .1, ← f .1 .1, ← fit .fit-standing .ensures, ne-eqb _ _ (c .if1 .taken))
 
 present-after-requires : tie.Need-present-after-requires
 present-after-requires c κs = search needs
@@ -36,15 +33,17 @@ quorum-refusal-requires c κs = search needs
 returns-3 : tie.Need-returns-3
 unfolding checkRefusal
 returns-3 c d =
-    let count = c .before .before in
-    let fit = count .before .before .before in
-    let seat = fit .before in
+    let fits = c .before .before in
+    let fit = fits .before .before in
+    let case = fit .before .before .before .before in
+    let start = case .before .before in
+    let f = of-case (start .args .s) (start .args .found) (case .action .given .1) (start .pre .1) in
     rw (
-      seat .before .before .before .before .action .given .1,
-      ← seat .seat-at .ensures,
+      case .action .given .1,
+      ← f .1 .1,
       ← fit .fit-standing .ensures,
-      eq-eqb _ _ (count .before .if1 .left),
-      ← count .present-seats .ensures .0,
+      eq-eqb _ _ (fits .if1 .left),
+      ← f .0,
       ← c .before .present-after .ensures,
     ) (c .quorum-refusal .ensures)
 
@@ -54,10 +53,8 @@ presents-check-spec =
     (tie.spec
     enum-known-action
     returns
-    seat-at-requires
     fit-standing-requires
     returns-2
-    present-seats-requires
     present-after-requires
     quorum-refusal-requires
     returns-3)

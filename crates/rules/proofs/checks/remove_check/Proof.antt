@@ -1,5 +1,6 @@
 use Rattle.rules.specs.Rules.{checkRefusal}
 use Rattle.rules.proofs.CaseKinds.{other-case}
+use Rattle.rules.proofs.Finding.{of-case}
 use borrow.Author.Needs.{needs}
 use Rattle.rules.proofs.checks.remove_check.Statement.{statement}
 use Rattle.rules.proofs.checks.remove_check.Tie as tie
@@ -8,13 +9,7 @@ enum-known-action : tie.Need-enum-known-action
 enum-known-action c = search needs
 
 returns : tie.Need-returns
-returns c d = absurd (other-case (c .before .args .action) 5 (c .before .pre) (tt {0}) (c .match .keys2))
-
-seat-at-requires : tie.Need-seat-at-requires
-seat-at-requires c κs = search needs
-
-present-seats-requires : tie.Need-present-seats-requires
-present-seats-requires c κs = search needs
+returns c d = absurd (other-case (c .before .args .action) 5 (c .before .pre .0) (tt {0}) (c .match .keys2))
 
 present-without-requires : tie.Need-present-without-requires
 present-without-requires c κs = search needs
@@ -36,17 +31,18 @@ unfolding checkRefusal
 returns-2 c d =
     let unfit = c .before .before in
     let without = unfit .before .before in
-    let seat = without .before .before in
+    let case = without .before .before .before .before in
+    let start = case .before .before in
+    let f = of-case (start .args .s) (start .args .found) (case .action .given .1) (start .pre .1) in
     rw (
-      seat .before .before .before .before .action .given .1,
-      ← seat .seat-at .ensures,
-      ← without .before .present-seats .ensures .0,
+      case .action .given .1,
+      ← f .1 .1,
+      ← f .0,
       ← without .present-without .ensures,
       ← unfit .before .is-active .ensures,
       ← unfit .refuse-if .ensures,
       ← c .before .quorum-refusal .ensures,
-    )
-    (c .or-else .ensures)
+    ) (c .or-else .ensures)
 
 pub remove-check-spec : {M : Type 1} → statement M
 remove-check-spec =
@@ -54,8 +50,6 @@ remove-check-spec =
     (tie.spec
     enum-known-action
     returns
-    seat-at-requires
-    present-seats-requires
     present-without-requires
     is-active-requires
     refuse-if-requires

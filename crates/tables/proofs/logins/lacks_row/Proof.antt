@@ -1,3 +1,4 @@
+use mathlib.Core.Path.{sym, _∙_}
 use borrow.Author.Needs.{needs}
 use Rattle.tables.proofs.logins.lacks_row.Statement.{statement}
 use Rattle.tables.proofs.logins.lacks_row.Tie as tie
@@ -9,7 +10,12 @@ is-listed-requires : tie.Need-is-listed-requires
 is-listed-requires c κs = search needs
 
 returns : tie.Need-returns
-returns c = rw (c .is-listed .ensures, c .before .logins-full .ensures)
+returns c =
+    let full = c .before in
+    rw (sym (full .before .logins-full .ensures) ∙ full .if1 .taken, ← c .is-listed .ensures)
+
+returns-2 : tie.Need-returns-2
+returns-2 c = rw (sym (c .before .logins-full .ensures) ∙ c .if1 .left)
 
 pub lacks-row-spec : {M : Type 1} → statement M
-lacks-row-spec = tie.close (tie.spec logins-full-requires is-listed-requires returns)
+lacks-row-spec = tie.close (tie.spec logins-full-requires is-listed-requires returns returns-2)

@@ -1,18 +1,31 @@
 use native.Mathlib.Omega.{arith}
 use denote.Ref.{now}
-use mathlib.Core.Path.{sym, _∙_}
+use mathlib.Core.Path.{_≡_, sym, ap, _∙_}
+use mathlib.Core.Bool.{Bool}
+use lib.Dec.{eqb}
+use Rattle.state.specs.declared.Seat.{Seat}
+use Rattle.state.specs.declared.State.{State}
+use Rattle.state.specs.Seats.{retired}
+use Rattle.verdicts.specs.declared.Own.{Own}
+use Rattle.verdicts.specs.Own.{heldSeat, isHalted}
 use Rattle.records.proofs.SheetRows.{sheet-of}
 use Rattle.verdicts.specs.Verdicts.{deliverRefusal}
 use borrow.Author.Needs.{needs}
 use Rattle.verdicts.proofs.calls.deliver_refusal.Statement.{statement}
 use Rattle.verdicts.proofs.calls.deliver_refusal.Tie as tie
 
+-- whether the node is halted, as the test tells it
+halted : (s : State) (own : Own) (held : Seat) (r : Bool) → held ≡ heldSeat s own → r ≡ eqb (held .standing) retired → isHalted s own ≡ r
+halted s own held r e h = sym (h ∙ ap (λ (x : Seat). eqb (x .standing) retired) e)
+
 is-halted-requires : tie.Need-is-halted-requires
 is-halted-requires c κs = search needs
 
 returns : tie.Need-returns
 unfolding deliverRefusal
-returns c = rw (sym (c .before .is-halted .ensures) ∙ c .if1 .taken)
+returns c own e =
+    let a = c .before .before .before .before .before .before .args in
+    rw (halted (a .s) own (a .held) _ e (c .before .is-halted .ensures) ∙ c .if1 .taken)
 
 time-refusal-requires : tie.Need-time-refusal-requires
 time-refusal-requires c κs = search needs
@@ -20,26 +33,30 @@ time-refusal-requires c κs = search needs
 shared-slice-read-action-refusal : tie.Need-shared-slice-read-action-refusal
 shared-slice-read-action-refusal c =
     let start = c .before .before .before .before .before .before .before .before in
-    omega (arith, sheet-of (now (start .args .sheet)) (start .pre) .size)
+    omega (arith, sheet-of (now (start .args .sheet)) (start .pre .0) .size)
 
 shared-slice-read-action-refusal-2 : tie.Need-shared-slice-read-action-refusal-2
 shared-slice-read-action-refusal-2 c =
     let start = c .before .before .before .before .before .before .before .before .before in
-    omega (arith, sheet-of (now (start .args .sheet)) (start .pre) .size)
+    omega (arith, sheet-of (now (start .args .sheet)) (start .pre .0) .size)
 
 action-refusal-requires : tie.Need-action-refusal-requires
-action-refusal-requires c κs = search needs
+action-refusal-requires c κs = c .before .before .before .before .before .before .before .before .before .pre .1
 
 or-else-requires : tie.Need-or-else-requires
 or-else-requires c κs = search needs
 
 returns-2 : tie.Need-returns-2
 unfolding deliverRefusal
-returns-2 c =
+returns-2 c own e =
     let time = c .before .before .before .before in
     let running = time .before in
-    rw (sym (running .before .is-halted .ensures) ∙ running .if1 .left, ← time .time-refusal .ensures, ← c .before .action-refusal .ensures)
-    (c .or-else .ensures)
+    let a = running .before .before .before .before .before .before .args in
+    rw (
+      halted (a .s) own (a .held) _ e (running .before .is-halted .ensures) ∙ running .if1 .left,
+      ← time .time-refusal .ensures,
+      ← c .before .action-refusal .ensures,
+    ) (c .or-else .ensures)
 
 pub deliver-refusal-spec : {M : Type 1} → statement M
 deliver-refusal-spec =

@@ -1,5 +1,9 @@
-use mathlib.Core.Path.{sym, _∙_}
+use mathlib.Core.Path.{_≡_, sym, ap, _∙_}
+use lib.Dec.{eqb}
 use borrow.Author.Tests.{le-leb, lt-leb}
+use Rattle.state.specs.declared.Seat.{Seat}
+use Rattle.state.specs.Seats.{retired}
+use Rattle.verdicts.specs.Own.{isHalted}
 use Rattle.verdicts.specs.Verdicts.{queryRefusal}
 use borrow.Author.Needs.{needs}
 use Rattle.verdicts.proofs.calls.query_refusal.Statement.{statement}
@@ -8,18 +12,25 @@ use Rattle.verdicts.proofs.calls.query_refusal.Tie as tie
 later-requires : tie.Need-later-requires
 later-requires c κs = search needs
 
+held-seat-requires : tie.Need-held-seat-requires
+held-seat-requires c κs = search needs
+
 is-halted-requires : tie.Need-is-halted-requires
 is-halted-requires c κs = search needs
 
+-- whether the node is halted, as the test tells it
+halted : (c : tie.After-is-halted) → let a = c .before .before .before .before .before .before .args in isHalted (a .s) (a .own) ≡ c .is-halted .result
+halted c = sym (c .is-halted .ensures ∙ ap (λ (x : Seat). eqb (x .standing) retired) (c .before .held-seat .ensures))
+
 returns : tie.Need-returns
 unfolding queryRefusal
-returns c = rw (sym (c .before .is-halted .ensures) ∙ c .if1 .taken)
+returns c = rw (halted (c .before) ∙ c .if1 .taken)
 
 returns-2 : tie.Need-returns-2
 unfolding queryRefusal
 returns-2 c =
     let running = c .before .before in
-    rw (sym (running .before .is-halted .ensures) ∙ running .if1 .left, le-leb _ _ (c .if2 .taken))
+    rw (halted (running .before) ∙ running .if1 .left, le-leb _ _ (c .if2 .taken))
 
 is-silent-requires : tie.Need-is-silent-requires
 is-silent-requires c κs = search needs
@@ -30,9 +41,9 @@ returns-3 c =
     let unlocked = c .before .before in
     let running = unlocked .before .before in
     rw (
-      sym (running .before .is-halted .ensures) ∙ running .if1 .left,
+      halted (running .before) ∙ running .if1 .left,
       lt-leb _ _ (unlocked .if2 .left),
-      ← running .before .before .later .ensures,
+      ← running .before .before .before .later .ensures,
       sym (c .before .is-silent .ensures) ∙ c .if3 .taken,
     )
 
@@ -46,9 +57,9 @@ returns-4 c =
     let unlocked = heard .before .before in
     let running = unlocked .before .before in
     rw (
-      sym (running .before .is-halted .ensures) ∙ running .if1 .left,
+      halted (running .before) ∙ running .if1 .left,
       lt-leb _ _ (unlocked .if2 .left),
-      ← running .before .before .later .ensures,
+      ← running .before .before .before .later .ensures,
       sym (heard .before .is-silent .ensures) ∙ heard .if3 .left,
     ) (c .login-refusal .ensures)
 
@@ -57,6 +68,7 @@ query-refusal-spec =
     tie.close
     (tie.spec
     later-requires
+    held-seat-requires
     is-halted-requires
     returns
     returns-2

@@ -20,10 +20,10 @@ or-else-requires c κs = search needs
 
 returns : tie.Need-returns
 unfolding voteRefusal
-returns c =
+returns c s e =
     let other = c .before .before in
     let absent = other .before in
-    rw (← absent .before .can-vote .ensures, ← absent .refuse-if .ensures, ← other .voted-otherwise .ensures, ← c .before .refuse-if2 .ensures)
+    rw (← e, ← absent .before .can-vote .ensures, ← absent .refuse-if .ensures, ← other .voted-otherwise .ensures, ← c .before .refuse-if2 .ensures)
     (c .or-else .ensures)
 
 pub vote-refusal-spec : {M : Type 1} → statement M

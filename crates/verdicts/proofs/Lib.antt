@@ -1,2 +1,3 @@
--- Laws of the bytes of a vote.
+-- Laws of the own seat, and of the bytes of a vote.
+pub mod Halting
 pub mod VoteBytes

@@ -1,22 +1,12 @@
 use native.Mathlib.Omega.{arith}
 use denote.Ref.{now}
-use mathlib.Core.Path.{_≡_, sym, ap, _∙_}
-use mathlib.Core.Bool.{Bool}
-use lib.Dec.{eqb}
-use Rattle.state.specs.declared.Seat.{Seat}
-use Rattle.state.specs.declared.State.{State}
-use Rattle.state.specs.Seats.{retired}
-use Rattle.verdicts.specs.declared.Own.{Own}
-use Rattle.verdicts.specs.Own.{heldSeat, isHalted}
+use mathlib.Core.Path.{_∙_}
 use Rattle.records.proofs.SheetRows.{sheet-of}
 use Rattle.verdicts.specs.Verdicts.{deliverRefusal}
+use Rattle.verdicts.proofs.Halting.{halted}
 use borrow.Author.Needs.{needs}
 use Rattle.verdicts.proofs.calls.deliver_refusal.Statement.{statement}
 use Rattle.verdicts.proofs.calls.deliver_refusal.Tie as tie
-
--- whether the node is halted, as the test tells it
-halted : (s : State) (own : Own) (held : Seat) (r : Bool) → held ≡ heldSeat s own → r ≡ eqb (held .standing) retired → isHalted s own ≡ r
-halted s own held r e h = sym (h ∙ ap (λ (x : Seat). eqb (x .standing) retired) e)
 
 is-halted-requires : tie.Need-is-halted-requires
 is-halted-requires c κs = search needs

@@ -1,10 +1,8 @@
-use mathlib.Core.Path.{_≡_, sym, ap, _∙_}
-use lib.Dec.{eqb}
+use mathlib.Core.Path.{_≡_, sym, _∙_}
 use borrow.Author.Tests.{le-leb, lt-leb}
-use Rattle.state.specs.declared.Seat.{Seat}
-use Rattle.state.specs.Seats.{retired}
 use Rattle.verdicts.specs.Own.{isHalted}
 use Rattle.verdicts.specs.Verdicts.{queryRefusal}
+use Rattle.verdicts.proofs.Halting.{halted}
 use borrow.Author.Needs.{needs}
 use Rattle.verdicts.proofs.calls.query_refusal.Statement.{statement}
 use Rattle.verdicts.proofs.calls.query_refusal.Tie as tie
@@ -18,19 +16,20 @@ held-seat-requires c κs = search needs
 is-halted-requires : tie.Need-is-halted-requires
 is-halted-requires c κs = search needs
 
--- whether the node is halted, as the test tells it
-halted : (c : tie.After-is-halted) → let a = c .before .before .before .before .before .before .args in isHalted (a .s) (a .own) ≡ c .is-halted .result
-halted c = sym (c .is-halted .ensures ∙ ap (λ (x : Seat). eqb (x .standing) retired) (c .before .held-seat .ensures))
+is-halted : (c : tie.After-is-halted) → let a = c .before .before .before .before .before .before .args in isHalted (a .s) (a .own) ≡ c .is-halted .result
+is-halted c =
+    let a = c .before .before .before .before .before .before .args in
+    halted (a .s) (a .own) (c .before .held-seat .result) _ (c .before .held-seat .ensures) (c .is-halted .ensures)
 
 returns : tie.Need-returns
 unfolding queryRefusal
-returns c = rw (halted (c .before) ∙ c .if1 .taken)
+returns c = rw (is-halted (c .before) ∙ c .if1 .taken)
 
 returns-2 : tie.Need-returns-2
 unfolding queryRefusal
 returns-2 c =
     let running = c .before .before in
-    rw (halted (running .before) ∙ running .if1 .left, le-leb _ _ (c .if2 .taken))
+    rw (is-halted (running .before) ∙ running .if1 .left, le-leb _ _ (c .if2 .taken))
 
 is-silent-requires : tie.Need-is-silent-requires
 is-silent-requires c κs = search needs
@@ -41,7 +40,7 @@ returns-3 c =
     let unlocked = c .before .before in
     let running = unlocked .before .before in
     rw (
-      halted (running .before) ∙ running .if1 .left,
+      is-halted (running .before) ∙ running .if1 .left,
       lt-leb _ _ (unlocked .if2 .left),
       ← running .before .before .before .later .ensures,
       sym (c .before .is-silent .ensures) ∙ c .if3 .taken,
@@ -57,7 +56,7 @@ returns-4 c =
     let unlocked = heard .before .before in
     let running = unlocked .before .before in
     rw (
-      halted (running .before) ∙ running .if1 .left,
+      is-halted (running .before) ∙ running .if1 .left,
       lt-leb _ _ (unlocked .if2 .left),
       ← running .before .before .before .later .ensures,
       sym (heard .before .is-silent .ensures) ∙ heard .if3 .left,

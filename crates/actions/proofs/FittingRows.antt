@@ -1,39 +1,27 @@
 -- Rows that fit and are well formed, by the format and the tests, and by a property of each row.
 use mathlib.Core.Path.{_≡_}
 use mathlib.Core.Bool.{Bool, true, _&&_, and-eq-true-iff}
-use mathlib.Core.List.{List, [], _∷_}
-use Prim.Native.Nat.{ℕ, zero, suc}
-use native.Mathlib.Omega.{arith}
+use mathlib.Core.List.{List}
+use Prim.Native.Nat.{ℕ}
 use lib.ListN.{length}
 use Rattle.lists.specs.Fold.{all}
 use Rattle.lists.specs.Table.{risingFrom}
-use Rattle.lists.proofs.Every.{All, none, more, all-of, all-to, all-both, all-map}
+use Rattle.lists.proofs.Every.{All, all-of, all-to, all-both, all-map}
 use Rattle.lists.proofs.Tables.{IsTable, rising-of, rising-to}
 use Rattle.binary.specs.Codec.{Codec, FitsRows}
+use Rattle.binary.proofs.Codec.{fits-each, fits-count, fits-rows}
 
 module _ {A : Type 0} (f : Codec A) (ok : A → Bool) where
   -- each number of the row is within its width, and the row is well formed
   abbrev pub Good : A → Type 0
   Good r = f .Fits r × (ok r ≡ true)
 
-  fits-of : (n : ℕ) (rows : List A) → FitsRows f n rows → (length rows ≡ n) × All (f .Fits) rows
-  unfolding FitsRows
-  fits-of zero [] h = (omega arith, none)
-  fits-of zero (r ∷ rs) h = absurd h
-  fits-of (suc n) [] h = absurd h
-  fits-of (suc n) (r ∷ rs) h = let t = fits-of n rs (h .1) in (let k = t .0 in omega arith, more (h .0) (t .1))
-
-  fits-to : {rows : List A} → All (f .Fits) rows → FitsRows f (length rows) rows
-  unfolding FitsRows
-  fits-to none = tt
-  fits-to (more h t) = (h, fits-to t)
-
   -- n good rows
   pub rows-of : (n : ℕ) (rows : List A) → FitsRows f n rows → all ok rows ≡ true → (length rows ≡ n) × All Good rows
-  rows-of n rows h e = let t = fits-of n rows h in (t .0, all-both (t .1) (all-of ok rows e))
+  rows-of n rows h e = (fits-count f n rows h, all-both (fits-each f n rows h) (all-of ok rows e))
 
   pub rows-fit : {n : ℕ} {rows : List A} → length rows ≡ n → All Good rows → FitsRows f n rows
-  rows-fit l g = rw l at (fits-to (all-map (λ r h. h .0) g))
+  rows-fit l g = rw l at (fits-rows f (all-map (λ r h. h .0) g))
 
   pub rows-ok : {rows : List A} → All Good rows → all ok rows ≡ true
   rows-ok g = all-to ok (all-map (λ r h. h .1) g)

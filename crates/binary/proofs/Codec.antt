@@ -86,6 +86,13 @@ module _ {A : Type 0} (f : Codec A) where
   fits-each (suc n) [] h = absurd h
   fits-each (suc n) (x ∷ xs) h = more (h .0) (fits-each n xs (h .1))
 
+  pub fits-count : (n : ℕ) (xs : List A) → FitsRows f n xs → length xs ≡ n
+  unfolding FitsRows
+  fits-count zero [] h = refl
+  fits-count zero (x ∷ xs) h = absurd h
+  fits-count (suc n) [] h = absurd h
+  fits-count (suc n) (x ∷ xs) h = ap suc (fits-count n xs (h .1))
+
   pub fits-rows : {xs : List A} → All (f .Fits) xs → FitsRows f (length xs) xs
   unfolding FitsRows
   fits-rows none = tt

@@ -1,6 +1,6 @@
 /* How firmware uses the node: three hubs are commissioned, grant a login by vote, answer queries
- * and end the login again; one hub is lost and comes back from a checkpoint, under a new life, which
- * votes once the park has voted a rejoin.
+ * and end the login again; wrong entries lock one door of a hub and not the other; one hub is lost
+ * and comes back from a checkpoint, under a new life, which votes once the park has voted a rejoin.
  *
  * The radio and the seal module are played by this program: what a hub votes for is put on the next
  * sheet as a row.
@@ -11,7 +11,7 @@
 #include <stdlib.h>
 #include <string.h>
 
-enum { HUBS = 3, RIGHT = 0, LOGIN = 501, PRESENT = 2 };
+enum { HUBS = 3, RIGHT = 0, LOGIN = 501, WRONG_LOGIN = 105, PRESENT = 2, MOST_MISSES = 10 };
 
 /* What a hub keeps from call to call. Two buffers, since no call works in place. */
 struct hub {
@@ -73,13 +73,19 @@ static uint32_t deliver(int seat, const uint8_t *announcement, int rows) {
                                   hub->next, sizeof hub->next));
 }
 
-static uint32_t ask(int seat, uint32_t day) {
-    uint8_t query[ACCESS_NODE_QUERY_SIZE];
-    uint8_t *at = put_head(query, sizeof query, ACCESS_NODE_KIND_QUERY);
-    put(put(put(at, LOGIN, 4), day, 4), RIGHT, 1);
+/* What the panel of a door asks. A hub with one door may use ACCESS_NODE_KIND_QUERY instead, which
+ * has no byte for the door and means door 0. */
+static uint32_t ask_at(uint32_t door, int seat, uint32_t login, uint32_t day) {
+    uint8_t query[ACCESS_NODE_DOOR_QUERY_SIZE];
+    uint8_t *at = put_head(query, sizeof query, ACCESS_NODE_KIND_DOOR_QUERY);
+    put(put(put(put(at, login, 4), day, 4), RIGHT, 1), door, 1);
     struct hub *hub = &hubs[seat];
     return keep(hub, node_query(hub->image, sizeof hub->image, query, sizeof query,
                                 hub->next, sizeof hub->next));
+}
+
+static uint32_t ask(int seat, uint32_t day) {
+    return ask_at(0, seat, LOGIN, day);
 }
 
 /* An announcement with 12 argument bytes, unused ones zero. Returns the place of the arguments. */
@@ -111,6 +117,15 @@ static void grant_by_vote(void) {
     step("hub 2 has not heard of it", ask(2, 110), ACCESS_NODE_NOT_LISTED);
 }
 
+static void lock_a_door(void) {
+    for (int entry = 0; entry < MOST_MISSES; entry++)
+        step("a wrong entry at door 1 of hub 0", ask_at(1, 0, WRONG_LOGIN, 110),
+             ACCESS_NODE_NOT_LISTED);
+    step("ten lock that door, for the right login too", ask_at(1, 0, LOGIN, 110),
+         ACCESS_NODE_LOCKED);
+    step("door 0 of hub 0 still opens", ask_at(0, 0, LOGIN, 110), ACCESS_NODE_OK);
+}
+
 static void lose_and_restart(void) {
     uint8_t checkpoint[ACCESS_NODE_CHECKPOINT_SIZE];
     step("hub 2 is lost; hub 0 gives its checkpoint",
@@ -126,6 +141,7 @@ static void lose_and_restart(void) {
     for (int seat = 0; seat < HUBS; seat++)
         step("each hub performs the rejoin that 0 and 1 voted for", deliver(seat, rejoin, 2),
              ACCESS_NODE_OK);
+    step("which unlocks door 1 of hub 0", ask_at(1, 0, LOGIN, 110), ACCESS_NODE_OK);
 }
 
 static void end_by_vote(void) {
@@ -144,6 +160,7 @@ int main(void) {
     for (int seat = 0; seat < HUBS; seat++)
         step("a hub is commissioned", start_hub(seat, 1, checkpoint), ACCESS_NODE_OK);
     grant_by_vote();
+    lock_a_door();
     lose_and_restart();
     end_by_vote();
     return 0;

@@ -14,7 +14,12 @@
  * Image. What the node holds from one call to the next. Where a call writes an image
  * (ACCESS_NODE_WRITES_IMAGE) it is the node's from then on, else the one that was handed in stays
  * the node's. The answers 19, 20 and 21 write one too: it counts the miss, and a firmware that
- * drops it takes the lock (17) off the node.
+ * drops it takes the lock (17) off the door.
+ *
+ * Doors. A hub has up to ACCESS_NODE_DOORS panels, doors 0 to 3. The image ends with their misses,
+ * a byte for each door, 0 to 10. A query names its door in its last byte
+ * (ACCESS_NODE_KIND_DOOR_QUERY), or asks at door 0 (ACCESS_NODE_KIND_QUERY). It counts, clears and
+ * looks at the misses of that door alone. A performed action and a start clear those of all doors.
  *
  * Loss of power. Store the image that a call wrote, then switch to it, in one step that a loss of
  * power cannot cut in half; only then act on the answer. Above all a vote is sent only after the
@@ -55,18 +60,24 @@ extern "C" {
 
 /* Which calls, records and rules this header is for. Edition 2 adds node_page, edition 3
  * node_roster_import and node_roster_export; nothing else changes in them. In edition 4 proposals
- * lapse after 60 days: no record changes, but the rules do. All nodes of a park run under the same
- * rules: those of editions 1 to 3, or those of edition 4. */
-#define ACCESS_NODE_EDITION 4
+ * lapse after 60 days: no record changes, but the rules do. In edition 5 each door has its own
+ * misses: a query of kind 21 names its door, and the image grows by 3 bytes; an image of 1,139
+ * bytes, as earlier editions wrote it, is malformed. Checkpoints are the same in all. All nodes of
+ * a park run under the same rules: those of editions 1 to 3, of edition 4, or of edition 5. */
+#define ACCESS_NODE_EDITION 5
 
 /* Sizes of whole records. A sheet has 0 to ACCESS_NODE_MOST_ROWS rows. */
 #define ACCESS_NODE_CHECKPOINT_SIZE 1108
-#define ACCESS_NODE_IMAGE_SIZE 1139
+#define ACCESS_NODE_IMAGE_SIZE 1142
 #define ACCESS_NODE_START_SIZE 9
 #define ACCESS_NODE_ANNOUNCEMENT_SIZE 24
 #define ACCESS_NODE_SHEET_SIZE(rows) (7 + 5 * (rows))
 #define ACCESS_NODE_MOST_ROWS 64
 #define ACCESS_NODE_QUERY_SIZE 13
+#define ACCESS_NODE_DOOR_QUERY_SIZE 14
+
+/* Doors are numbered from 0. */
+#define ACCESS_NODE_DOORS 4
 
 /* A page has a line for each login, of 46 characters and a line feed. */
 #define ACCESS_NODE_LINE_SIZE 47
@@ -92,6 +103,7 @@ extern "C" {
 #define ACCESS_NODE_KIND_SHEET 18
 #define ACCESS_NODE_KIND_START 19
 #define ACCESS_NODE_KIND_QUERY 20
+#define ACCESS_NODE_KIND_DOOR_QUERY 21
 
 /* Answers. */
 #define ACCESS_NODE_OK 0             /* started, performed, open; what was asked for is given */
@@ -111,9 +123,9 @@ extern "C" {
 #define ACCESS_NODE_TOO_LOW 14       /* a life not above the listed one, or a grant that is over */
 #define ACCESS_NODE_CANNOT_VOTE 15   /* no quorum, and the own seat is not present at this life */
 #define ACCESS_NODE_VOTED_OTHER 16   /* no quorum, and voted for other bytes in this cycle */
-#define ACCESS_NODE_LOCKED 17        /* ten bad queries in a row */
+#define ACCESS_NODE_LOCKED 17        /* ten bad queries at this door, none open between them */
 #define ACCESS_NODE_SILENT 18        /* nothing was performed for longer than the silence limit */
-#define ACCESS_NODE_NOT_LISTED 19    /* no such login; one miss is added */
+#define ACCESS_NODE_NOT_LISTED 19    /* no such login; one miss is added at this door */
 #define ACCESS_NODE_ENDED 20         /* the login's last day is over; one miss is added */
 #define ACCESS_NODE_RIGHT_NOT_HELD 21 /* the login has no such right; one miss is added */
 #define ACCESS_NODE_NO_ROOM 22       /* the output slice is too short for the image or checkpoint */
@@ -134,22 +146,25 @@ extern "C" {
       ACCESS_NODE_ANSWER(returned) <= ACCESS_NODE_RIGHT_NOT_HELD))
 
 /* Starts a node from a checkpoint, at the seat and under the life of a start record.
- * Refusals: 1, 22, 9, 14. Writes the image with 0. A refused start makes no node. */
+ * Refusals: 1, 22, 9, 14. Writes the image with 0: no vote, no misses. A refused start makes no
+ * node. */
 #define ACCESS_NODE_STACK_START 5120
 uint32_t node_start(const uint8_t *checkpoint, size_t checkpoint_length,
                     const uint8_t *start, size_t start_length,
                     uint8_t *image_out, size_t image_out_length);
 
 /* Delivers an announcement with its sheet: performs it where the sheet shows a quorum, else votes.
- * Refusals: 1, 2, 22, 3 to 16. Writes the image with 0 and ACCESS_NODE_VOTED. */
+ * Refusals: 1, 2, 22, 3 to 16. Writes the image with 0, then with no vote and no misses, and with
+ * ACCESS_NODE_VOTED. */
 #define ACCESS_NODE_STACK_DELIVER 10240
 uint32_t node_deliver(const uint8_t *image, size_t image_length,
                       const uint8_t *announcement, size_t announcement_length,
                       const uint8_t *sheet, size_t sheet_length,
                       uint8_t *image_out, size_t image_out_length);
 
-/* Asks whether a login may use a right on a day.
- * Refusals: 1, 22, 3, 17 to 21. Writes the image with 0, misses 0, and with 19 to 21, one more. */
+/* Asks at a door whether a login may use a right on a day.
+ * Refusals: 1 (also for a door above 3), 22, 3, 17 to 21. Writes the image with 0, the misses of
+ * that door 0, and with 19 to 21, one more; those of the other doors stay. */
 #define ACCESS_NODE_STACK_QUERY 5120
 uint32_t node_query(const uint8_t *image, size_t image_length,
                     const uint8_t *query, size_t query_length,
@@ -163,7 +178,7 @@ uint32_t node_checkpoint(const uint8_t *image, size_t image_length,
 
 /* Gives the access page: the login list as text, with what a query would meet on the given day, a
  * count from 1970-01-01. A slice of ACCESS_NODE_PAGE_SIZE(ACCESS_NODE_MOST_LOGINS) bytes holds every
- * page; there is no zero byte behind it. Halted and locked nodes give their page too.
+ * page; there is no zero byte behind it. Halted nodes and those with locked doors give it too.
  * Refusals: 1, 23. Writes the page with 0, and no image; ACCESS_NODE_COUNT is its number of lines. */
 #define ACCESS_NODE_STACK_PAGE 4096
 uint32_t node_page(const uint8_t *image, size_t image_length, uint32_t day,

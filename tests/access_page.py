@@ -12,6 +12,7 @@ import tempfile
 LAST_DAY = (datetime.date(2099, 12, 31) - datetime.date(1970, 1, 1)).days
 LINES = 64
 SILENCE = 365
+DOORS = 4  # each with a byte of misses
 
 
 def number(value, size):
@@ -23,7 +24,7 @@ def image(agreed, rows):
     head = number(1106, 2) + number(16, 2) + number(1, 4) + number(agreed, 4) + bytes([1, 1, 0, 1]) + number(SILENCE, 2)
     seats = bytes([2]) + number(1, 4) + bytes(31 * 5)
     logins = b"".join(number(login, 4) + number(end, 4) + number(rights, 2) for login, end, rights in rows)
-    own = bytes([0]) + number(1, 4) + bytes(26)
+    own = bytes([0]) + number(1, 4) + bytes(25 + DOORS)
     return head + seats + bytes(1 + 16 * 18) + bytes([len(rows)]) + logins.ljust(640, b"\0") + own
 
 

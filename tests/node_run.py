@@ -18,6 +18,7 @@ import sys
 PATIENCE = 10  # seconds for one run
 MOST_FAILURES = 20  # after these the rest is left: each may have taken all that time
 GREATEST_SIZE = 65537  # of a record: the length field, and 65,535 bytes after it
+QUERIES = (20, 21)  # kinds of a request of one record
 CRATE = pathlib.Path(__file__).resolve().parent.parent / "crates/node_run"
 
 # ---- requests: their records, the answer and the cycle after it
@@ -43,7 +44,7 @@ def stored():
     answers = [line.split(b" ", 1)[1] for line in (CRATE / "stdout").read_bytes().splitlines()]
     requests = []
     for answer in answers[:-1]:
-        count = 1 if kind_of(records[0]) == 20 else 2
+        count = 1 if kind_of(records[0]) in QUERIES else 2
         requests.append((b"".join(records[:count]), answer))
         del records[:count]
     return requests, (b"".join(records[:2]), answers[-1]), b"".join(records[2:])

@@ -1,6 +1,7 @@
-//! The records of document 01 as one table: the fields of each in the order of their bytes, their
-//! sizes, places and ranges; the line of a page and that of a roster. What writes, shows and damages
-//! records takes them from here; the second implementation and the version for speed have their own.
+//! The records of document 01 and request A5 as one table: the fields of each in the order of their
+//! bytes, their sizes, places and ranges; the line of a page and that of a roster. What writes, shows
+//! and damages records takes them from here; the second implementation and the version for speed have
+//! their own.
 
 /// How a field's value stands in the text.
 #[derive(Debug, Clone, Copy, PartialEq, Eq)]
@@ -14,7 +15,8 @@ pub enum Form {
 #[derive(Debug, Clone, Copy)]
 pub struct Field {
     pub name: &'static str,
-    /// Whether the name stands before the value. The second number of trustees has none.
+    /// Whether the name stands before the value. The second number of trustees and the misses of doors
+    /// 1 to 3 have none.
     pub is_named: bool,
     pub size: usize,
     pub low: u32,
@@ -81,7 +83,10 @@ pub const SILENCE: Field = number("S", 2, 1, 365);
 /// "login 0 in a query or end" is well formed; those of a grant and a list are at least 1.
 const ANY_LOGIN: Field = number("login", 4, 0, MAX);
 pub const RIGHT: Field = number("right", 1, 0, 15);
+/// Of one door.
 pub const MISSES: Field = number("misses", 1, 0, 10);
+pub const DOOR: Field = number("door", 1, 0, 3);
+pub const DOORS: usize = DOOR.high as usize + 1;
 pub const STANDING: Field = number("standing", 1, 0, 3);
 pub const VOTED: Field = number("voted flag", 1, 0, 1);
 pub const ROW_COUNT: Field = number("row count", 1, 0, 64);
@@ -90,6 +95,8 @@ pub const SUBJECT_KIND: Field = number("subject kind", 2, 4, 6);
 
 pub const START: [Field; 2] = [SEAT, LIFE];
 pub const QUERY: [Field; 3] = [ANY_LOGIN, DAY, RIGHT];
+/// A query that names its door (request A5).
+pub const DOOR_QUERY: [Field; 4] = [ANY_LOGIN, DAY, RIGHT, DOOR];
 /// Of a sheet; the row count and the rows follow.
 pub const MASKS: [Field; 2] = [bits("level-1", 1, 0), bits("level-2", 1, 0)];
 pub const ROW: [Field; 2] = [SEAT, LIFE];
@@ -115,6 +122,8 @@ pub const CHECKPOINT: [Field; 7] = [
 pub const SEAT_ROW: [Field; 2] = [STANDING, LIFE];
 /// An image's own part up to the voted flag; the vote and the misses follow.
 pub const OWN: [Field; 2] = [SEAT, HELD_LIFE];
+/// The misses of an image, by door.
+pub const ALL_MISSES: [Field; DOORS] = [MISSES, unnamed(MISSES), unnamed(MISSES), unnamed(MISSES)];
 
 /// The nine actions by kind, from 1. The argument of propose is another action.
 pub const ACTIONS: [(&str, &[Field]); 9] = [
@@ -136,6 +145,7 @@ pub const CHECKPOINT_KIND: u16 = 16;
 pub const SHEET_KIND: u16 = 18;
 pub const START_KIND: u16 = 19;
 pub const QUERY_KIND: u16 = 20;
+pub const DOOR_QUERY_KIND: u16 = 21;
 
 /// A table of a checkpoint: where its first row stands, its most rows and the bytes of each.
 pub struct Table {
@@ -169,6 +179,8 @@ pub const ANNOUNCEMENT_SIZE: usize = ARGUMENTS + ARGUMENTS_SIZE;
 pub const ROW_COUNT_AT: usize = BODY + size(&MASKS);
 pub const ROWS: usize = ROW_COUNT_AT + ROW_COUNT.size;
 pub const ROW_SIZE: usize = size(&ROW);
+/// Where the door of a query stands: behind the fields of one that names none.
+pub const DOOR_AT: usize = BODY + size(&QUERY);
 pub const SEATS: Table = Table {
     at: BODY + size(&CHECKPOINT),
     most: 32,
@@ -189,7 +201,7 @@ pub const CHECKPOINT_SIZE: usize = LOGINS.end();
 pub const VOTED_AT: usize = CHECKPOINT_SIZE + size(&OWN);
 pub const VOTE: std::ops::Range<usize> = VOTED_AT + 1..VOTED_AT + 1 + ANNOUNCEMENT_SIZE;
 pub const MISSES_AT: usize = VOTE.end;
-pub const IMAGE_SIZE: usize = MISSES_AT + MISSES.size;
+pub const IMAGE_SIZE: usize = MISSES_AT + size(&ALL_MISSES);
 /// A line of a page: "46 characters and a line feed" (request A1).
 pub const LINE_SIZE: usize = 47;
 /// The line of a roster for a grant (request A2) without its login: two commas, a date, four
@@ -290,7 +302,29 @@ pub fn least_size(kind: u16) -> usize {
         SHEET_KIND => ROWS,
         START_KIND => BODY + size(&START),
         QUERY_KIND => BODY + size(&QUERY),
+        DOOR_QUERY_KIND => BODY + size(&DOOR_QUERY),
         _ => ANNOUNCEMENT_SIZE,
+    }
+}
+
+/// Whether a record is a query, by its kind.
+pub fn is_query(kind: u16) -> bool {
+    matches!(kind, QUERY_KIND | DOOR_QUERY_KIND)
+}
+
+/// The fields of a query of this kind.
+pub fn query_fields(kind: u16) -> &'static [Field] {
+    match kind {
+        DOOR_QUERY_KIND => &DOOR_QUERY,
+        _ => &QUERY,
+    }
+}
+
+/// The door of a well-formed query: "kind 20 means door 0" (request A5).
+pub fn door_of(query: &[u8]) -> usize {
+    match kind_of(query) {
+        DOOR_QUERY_KIND => number_at(query, DOOR_AT, DOOR.size) as usize,
+        _ => 0,
     }
 }
 

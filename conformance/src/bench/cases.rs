@@ -69,6 +69,7 @@ impl Size {
         let late = announcement(9, records::arguments(&1u32.to_le_bytes()));
         let line_size = roster_line_size(&grant);
         let start = Records::Start(self.state().write(), records::start(0, LIFE));
+        let at_door_3 = Records::Query(records::door_query(500 * self.logins, DAY, 0, 3));
         vec![
             self.case("start", start, 0),
             self.case(
@@ -82,6 +83,7 @@ impl Size {
             self.case("deliver: grant voted", self.deliver(&grant, 0), VOTED),
             self.case("deliver: end no 13", self.deliver(&late, self.rows), 13),
             self.case("query: open", query(500 * self.logins, DAY), 0),
+            self.case("query: open at door 3", at_door_3, 0),
             self.case("query: no 19", query(7, DAY), 19),
             self.case("query: no 18", query(500, DAY + 31), 18),
             self.case("checkpoint", Records::Checkpoint, 0),
@@ -117,7 +119,7 @@ impl Size {
             seat: 0,
             life: LIFE,
             vote: None,
-            misses: 3,
+            misses: [3, 0, 10, 9],
         };
         own.image(&self.state())
     }

@@ -19,7 +19,7 @@ SIZE is full or small, VERSION archive, paper or tuned, CASE the name of a line 
 start
 deliver: propose done, deliver: remove done, deliver: grant done, deliver: end done
 deliver: grant voted, deliver: end no 13
-query: open, query: no 19, query: no 18
+query: open, query: open at door 3, query: no 19, query: no 18
 checkpoint
 page
 import, import: quoted

@@ -1,6 +1,7 @@
 //! Calls, histories and streams run through the shipped code and through the second implementation.
 
 pub mod claims;
+pub mod doors;
 pub mod hosts;
 mod notices;
 pub mod one_call;

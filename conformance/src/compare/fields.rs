@@ -3,10 +3,10 @@
 
 use crate::layout::{
     self, kind_of, number_at, ARGUMENTS, BODY, CHECKPOINT, CHECKPOINT_KIND, CHECKPOINT_SIZE,
-    CYCLE_AND_DAY, IMAGE_SIZE, LOGIN, LOGINS, SUBJECT_KIND,
+    CYCLE_AND_DAY, DOORS, IMAGE_SIZE, LOGIN, LOGINS, SUBJECT_KIND,
 };
-use crate::layout::{MISSES_AT, OWN, PROPOSAL, PROPOSALS, ROW, ROWS, ROW_SIZE, SEATS, SEAT_ROW};
-use crate::layout::{SUBJECT_SIZE, VOTE, VOTED_AT};
+use crate::layout::{MISSES, MISSES_AT, OWN, PROPOSAL, PROPOSALS, ROW, ROWS, ROW_SIZE, SEATS};
+use crate::layout::{SEAT_ROW, SUBJECT_SIZE, VOTE, VOTED_AT};
 
 pub const FREE: u8 = 0;
 pub const CERTIFIED: u8 = 1;
@@ -245,7 +245,8 @@ pub struct OwnFields {
     pub seat: u8,
     pub life: u32,
     pub vote: Option<Vec<u8>>,
-    pub misses: u8,
+    /// By door.
+    pub misses: [u8; DOORS],
 }
 
 impl OwnFields {
@@ -259,8 +260,13 @@ impl OwnFields {
             seat: seat as u8,
             life,
             vote: (image[VOTED_AT] == 1).then(|| image[VOTE].to_vec()),
-            misses: image[MISSES_AT],
+            misses: std::array::from_fn(|door| image[MISSES_AT + door]),
         })
+    }
+
+    /// Whether rule 17 applies at a door.
+    pub fn is_locked(&self, door: usize) -> bool {
+        u32::from(self.misses[door]) == MISSES.high
     }
 
     /// "A node whose own seat is retired is halted."
@@ -277,7 +283,7 @@ impl OwnFields {
             Some(vote) => bytes.extend(vote),
             None => bytes.resize(MISSES_AT, 0),
         }
-        bytes.push(self.misses);
+        bytes.extend(self.misses);
         bytes
     }
 }

@@ -6,7 +6,7 @@ use super::check::claims::{Claims, Tally};
 use super::check::hosts::Hosts;
 use super::check::pages::WORDS;
 use super::check::second::Second;
-use super::check::{one_call, program, rerun};
+use super::check::{doors, one_call, program, rerun};
 use super::make::histories::HistoryMaker;
 use super::make::random::Random;
 use super::make::{lone_requests, rosters, streams, sweeps};
@@ -24,6 +24,9 @@ pub struct Found {
 
 /// No line of progress is printed before so long after the last one.
 const PAUSE: Duration = Duration::from_secs(4);
+
+/// One history of so many is run again for each door, without the queries at the others.
+const APART: u64 = 16;
 
 pub struct Stages {
     second: &'static Second,
@@ -45,6 +48,8 @@ pub struct Stages {
     at_limit: u64,
     pages: u64,
     asked: [u64; WORDS.len()],
+    /// Histories that were run again for each door.
+    apart: u64,
     streams: u64,
 }
 
@@ -64,6 +69,7 @@ impl Stages {
             at_limit: 0,
             pages: 0,
             asked: [0; WORDS.len()],
+            apart: 0,
             streams: 0,
         }
     }
@@ -189,6 +195,9 @@ impl Stages {
             let seed = rng.number();
             let (history, tally) = run_random(self.second, seed, &mut self.coverage)?;
             self.add(&tally);
+            if self.histories % APART == 1 {
+                self.apart(&history)?;
+            }
             if let Some(program) = self.node_run.clone() {
                 let input = streams::of_history(rng, &history);
                 self.streams += 1;
@@ -200,6 +209,14 @@ impl Stages {
             }
         }
         Ok(())
+    }
+
+    fn apart(&mut self, history: &History) -> Result<(), Found> {
+        self.apart += 1;
+        doors::apart(self.second, history).map_err(|(_, what)| Found {
+            case: Case::History(history.clone()),
+            what,
+        })
     }
 
     fn add(&mut self, tally: &Tally) {
@@ -234,6 +251,7 @@ impl Stages {
             (self.regranted, regranted),
             (self.at_limit, at_limit),
             (self.pages, pages),
+            (self.apart, "history run again for each door"),
         ];
         let never = counts.iter().filter(|(count, _)| *count == 0);
         lines.extend(never.map(|(_, what)| what.to_string()));
@@ -269,6 +287,10 @@ impl Stages {
                 self.pages
             ),
             format!("lines that a query agrees with  {}", asked.join("  ")),
+            format!(
+                "doors: {} histories run again for each, without the queries at the others",
+                self.apart
+            ),
         ];
         lines.extend(self.coverage.summary());
         lines
@@ -298,6 +320,7 @@ fn run_random(
             let Some(event) = event else { return Ok(()) };
             coverage.note(&event.request, &event.outcome);
             coverage.notices.note(&event.request, &event.outcome);
+            coverage.doors.note(&event.request, &event.outcome);
             maker.learn(&event);
             claims.note(&event)
         };

@@ -1,6 +1,8 @@
 //! What was met and what was found, in lines that a person reads.
 
 pub mod coverage;
+mod door_marks;
+mod doors;
 pub mod kept_case;
 mod marks;
 mod notice_marks;

@@ -2,19 +2,20 @@
 
 use super::call::{answer_in, count_in, Event, Outcome, Records, Request};
 use super::check::claims::{Claims, Tally};
+use super::check::doors::{same_at, Step};
 use super::check::rerun;
 use super::check::rosters::round_trip;
 use super::fields::{Login, OwnFields, Proposal, StateFields};
 use super::make::{records, rosters};
 use super::{random_history, Case, Random, FAULTY, PAPER};
 use crate::faulty;
-use crate::layout::{read, BODY, CYCLE_AND_DAY, IMAGE_SIZE, LINE_SIZE};
+use crate::layout::{read, BODY, CYCLE_AND_DAY, DOORS, IMAGE_SIZE, LINE_SIZE};
 
 const OWN: OwnFields = OwnFields {
     seat: 0,
     life: 1,
     vote: None,
-    misses: 0,
+    misses: [0; DOORS],
 };
 
 fn event(state: &StateFields, records: Records, after: &StateFields) -> Event {
@@ -101,7 +102,7 @@ fn a_line_that_is_no_case_is_named() {
         "line 3: not a line of a case: junk"
     );
     assert_eq!(read("stream 0g\n"), "line 1: not hexadecimal: 0g");
-    let host = "hosts image\ncall 1 1139 checkpoint\n";
+    let host = "hosts image\ncall 1 1142 checkpoint\n";
     assert_eq!(read(host), "line 2: host 1 is not among the hosts");
     assert_eq!(read("# nothing\n"), "no case is in it");
     let day = "hosts image\ncall 0 47 page -1\n";
@@ -199,7 +200,10 @@ const NO_FAULT: &str = "";
 
 #[test]
 fn two_pages_at_one_cycle_for_one_day_are_seen() {
-    let locked = OwnFields { misses: 10, ..OWN };
+    let locked = OwnFields {
+        misses: [10; DOORS],
+        ..OWN
+    };
     let pages = |fault| [page_with(fault, &OWN, 110), page_with(fault, &locked, 110)];
     assert_eq!(claims_of(&pages(NO_FAULT)).unwrap().pages, 1);
     let what = claims_of(&pages("WordOfLocked")).err().unwrap();
@@ -236,18 +240,27 @@ fn removal_with(fault: &str, seat: u8, rows: &[(u8, u32)]) -> Event {
     let mut state = StateFields::printed_run();
     state.cycle = 9;
     state.proposals = vec![proposal(1, 39), proposal(2, 40)];
-    let image = OWN.image(&state);
     let announcement = records::announcement(6, 9, 100, records::arguments(&[seat]));
     let sheet = records::sheet([1, 1], rows);
+    let records = Records::Deliver(announcement, sheet);
+    made_with(fault, OWN.image(&state), records)
+}
+
+/// A delivery or a query at a node by value of the copy with a fault.
+fn made_with(fault: &str, image: Vec<u8>, records: Records) -> Event {
     faulty::set(faulty::find(fault));
     let mut node = (FAULTY.from_image)(&image).expect("a node");
-    let number = node.deliver(&announcement, &sheet);
+    let number = match &records {
+        Records::Deliver(announcement, sheet) => node.deliver(announcement, sheet),
+        Records::Query(query) => node.query(query),
+        _ => panic!("neither a delivery nor a query"),
+    };
     let held = node.image();
     faulty::set(None);
     Event {
         request: Request {
             image,
-            records: Records::Deliver(announcement, sheet),
+            records,
             out: IMAGE_SIZE,
         },
         outcome: Outcome {
@@ -280,6 +293,98 @@ fn proposals_that_are_not_left_as_they_should_be_are_seen() {
     ] {
         assert_eq!(read(fault, seat, rows).as_deref(), Some(what), "{fault}");
     }
+}
+
+/// A call to a node with 3, 0, 10 and 9 misses, by the copy with a fault; login 501 opens.
+fn at_doors_with(fault: &str, records: Records) -> Option<String> {
+    let own = OwnFields {
+        misses: [3, 0, 10, 9],
+        ..OWN
+    };
+    let mut state = StateFields::printed_run();
+    state.logins.push(Login {
+        login: 501,
+        end: 120,
+        rights: 1,
+    });
+    claims_of(&[made_with(fault, own.image(&state), records)]).err()
+}
+
+fn asked(login: u32, door: u8) -> Records {
+    Records::Query(records::door_query(login, 100, 0, door))
+}
+
+#[test]
+fn a_query_that_leaves_other_misses_than_it_should_is_seen() {
+    for records in [asked(501, 0), asked(501, 2), asked(7, 1), asked(7, 3)] {
+        assert_eq!(at_doors_with(NO_FAULT, records), None);
+    }
+    let all = "answer 0: the misses are [0, 0, 0, 0] and not [0, 0, 10, 9]";
+    let other = "answer 0: the misses are [0, 0, 10, 0] and not [3, 0, 10, 0]";
+    let missed = "answer 19: the misses are [4, 0, 10, 9] and not [3, 1, 10, 9]";
+    for (fault, records, what) in [
+        ("OpenClearsAll", asked(501, 0), all),
+        ("OpenClearsDoor0Too", asked(501, 3), other),
+        ("MissAtDoor0", asked(7, 1), missed),
+        (
+            "LockedByAnyDoor",
+            asked(501, 1),
+            "answer 17 at door 1, misses 0",
+        ),
+        (
+            "Door2NeverLocked",
+            asked(501, 2),
+            "answer 0 at door 2, misses 10",
+        ),
+    ] {
+        let found = at_doors_with(fault, records);
+        assert_eq!(found.as_deref(), Some(what), "{fault}");
+    }
+}
+
+#[test]
+fn a_delivery_that_leaves_other_misses_than_it_should_is_seen() {
+    let grant = about(8, &StateFields::printed_run(), 101);
+    let with = |rows: &[(u8, u32)]| Records::Deliver(grant.clone(), records::sheet([1, 1], rows));
+    let (vote, quorum) = (with(&[]), with(&[(0, 1), (1, 1)]));
+    for records in [vote.clone(), quorum.clone()] {
+        assert_eq!(at_doors_with(NO_FAULT, records), None);
+    }
+    let voted = "answer 128: the misses are [3, 0, 0, 0] and not [3, 0, 10, 9]";
+    let performed = "answer 0: the misses are [0, 0, 0, 9] and not [0, 0, 0, 0]";
+    for (fault, records, what) in [
+        ("VoteClearsDoors", vote, voted),
+        ("PerformKeepsDoor3", quorum, performed),
+    ] {
+        let found = at_doors_with(fault, records);
+        assert_eq!(found.as_deref(), Some(what), "{fault}");
+    }
+}
+
+#[test]
+fn a_door_that_others_change_is_seen() {
+    let step = |place, number, misses| Step {
+        place,
+        answer: (number, 0),
+        misses,
+    };
+    let whole = [
+        step(0, 0, [0; DOORS]),
+        step(2, 19, [1, 5, 0, 0]),
+        step(3, 17, [1, 10, 0, 0]),
+    ];
+    let same = |fewer: &[Step]| same_at(0, whole.into_iter(), fewer).map_err(|(place, _)| place);
+    let [first, second, third] = whole;
+    let alone = |step: Step, number: u32, count: u8| Step {
+        answer: (number, 0),
+        misses: [count, 0, 0, 0],
+        ..step
+    };
+    let (one, other) = (alone(second, 19, 1), alone(third, 17, 1));
+    assert_eq!(same(&[first, one, other]), Ok(()));
+    assert_eq!(same(&[first, alone(second, 19, 2), other]), Err(2));
+    assert_eq!(same(&[first, one, alone(third, 19, 1)]), Err(3));
+    assert_eq!(same(&[first, one]), Err(0));
 }
 
 /// What comes of an import and an export, each with the bytes that it wrote.

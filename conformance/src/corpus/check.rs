@@ -10,6 +10,7 @@ use super::walk::{walk, Counts, Found};
 use crate::compare::call::{given, ARCHIVE};
 use crate::compare::program::printed;
 use crate::compare::PAPER;
+use crate::layout::kind_of;
 use crate::text;
 use std::io;
 use std::path::PathBuf;
@@ -21,8 +22,9 @@ pub struct Checker {
     pub desk: Desk,
     pub node_run: PathBuf,
     pub reached: Reached,
-    /// The answers of calls for which the lengths of all slices were swept: each once.
-    swept: Vec<(Sort, Answer)>,
+    /// The answers of calls for which the lengths of all slices were swept, each once; of queries also
+    /// by their kind.
+    swept: Vec<(Sort, Answer, u16)>,
 }
 
 impl Checker {
@@ -78,7 +80,11 @@ impl Checker {
 
     /// What follows from a request that has room.
     fn derive(&mut self, request: &Request, call: &Call, number: u32) -> Result<(), String> {
-        let key = (call.sort, request.answer);
+        let kind = match call.sort {
+            Sort::Query => kind_of(&call.slices[1]),
+            _ => 0,
+        };
+        let key = (call.sort, request.answer, kind);
         let first = !self.swept.contains(&key);
         let each = &mut |call: &Call, on: Slices, wanted: u32| self.derived(call, on, wanted);
         sweep::around(call, number, each)?;

@@ -7,7 +7,8 @@
 use super::call::{Call, Sort};
 use super::make::{Slices, GUARD};
 use crate::compare::call::given;
-use crate::layout::{self, CHECKPOINT_SIZE, IMAGE_SIZE};
+use crate::compare::make::records;
+use crate::layout::{self, is_query, CHECKPOINT_SIZE, DOORS, IMAGE_SIZE, MISSES_AT, QUERY_KIND};
 use crate::text;
 
 /// What is done with a derived call and the number it is to return; an error ends the sweep.
@@ -142,11 +143,12 @@ fn malformed(call: &Call, place: usize, each: Each) -> Swept {
     each(call, slices, call.sort.malformed(place))
 }
 
-const RECORDS: [&str; 4] = [
+const RECORDS: [&str; 5] = [
     "start seat 0 life 1",
     "announce cycle 1 day 101 end login 501",
     "sheet level-1 0 level-2 rows",
     "query login 501 day 120 right 0",
+    "query login 501 day 120 right 0 door 1",
 ];
 
 /// A record of another sort in the place of this one.
@@ -162,11 +164,13 @@ fn misplaced(call: &Call, place: usize, each: Each) -> Swept {
     Ok(())
 }
 
-/// The kind that a record's third byte tells, the nine of an announcement as one.
-fn sort_of(record: &[u8]) -> Option<u8> {
-    record.get(2).map(|kind| match kind {
+/// The kind that a record's third byte tells, the nine of an announcement as one, both of a query too.
+fn sort_of(record: &[u8]) -> Option<u16> {
+    let kind = record.get(2).copied().map(u16::from);
+    kind.map(|kind| match kind {
         1..=9 => 1,
-        _ => *kind,
+        _ if is_query(kind) => QUERY_KIND,
+        _ => kind,
     })
 }
 
@@ -215,21 +219,28 @@ pub fn in_other_calls(call: &Call, number: u32, each: Each) -> Swept {
 }
 
 /// An image in each call that takes one: an announcement of cycle 0, which has passed in every
-/// state, and a query for login 0, which is never listed, on day 0, which is never after the agreed
-/// day. The page is for day 0 as well.
+/// state, and at each door a query for login 0, which is never listed, on day 0, which is never after
+/// the agreed day. The page is for day 0 as well.
 pub fn image_in_calls(image: &[u8], is_good: bool, each: Each) -> Swept {
-    let ((deliver, query), page) = match is_good {
-        true => (numbers_of(image), given(layout::lines(image))),
-        false => ((1, 1), 1),
+    let (deliver, page) = match is_good {
+        true => (
+            if is_halted(image) { 3 } else { 4 },
+            given(layout::lines(image)),
+        ),
+        false => (1, 1),
     };
-    let records = ASKED.map(|text| text::compose(text).unwrap_or_default());
-    let [announcement, sheet, login_0] = records;
-    for (sort, records, number) in [
+    let composed = DELIVERED.map(|text| text::compose(text).unwrap_or_default());
+    let mut calls = vec![
         (Sort::Checkpoint, vec![], u32::from(!is_good)),
-        (Sort::Deliver, vec![announcement, sheet], deliver),
-        (Sort::Query, vec![login_0], query),
+        (Sort::Deliver, composed.to_vec(), deliver),
         (Sort::Page, vec![], page),
-    ] {
+    ];
+    for door in 0..DOORS {
+        let number = if is_good { asked_of(image, door) } else { 1 };
+        let query = records::door_query(0, 0, 0, door as u8);
+        calls.push((Sort::Query, vec![query], number));
+    }
+    for (sort, records, number) in calls {
         if let Some(call) = Call::new(sort, Some(image), records) {
             around(&call, number, each)?;
         }
@@ -237,19 +248,21 @@ pub fn image_in_calls(image: &[u8], is_good: bool, each: Each) -> Swept {
     Ok(())
 }
 
-const ASKED: [&str; 3] = [
+const DELIVERED: [&str; 2] = [
     "announce cycle 0 day 101 end login 501",
     "sheet level-1 0 level-2 rows",
-    "query login 0 day 0 right 0",
 ];
 
-/// What a node answers to these: 3 where it is halted, 17 where it is locked, else 4 and 19.
-fn numbers_of(image: &[u8]) -> (u32, u32) {
+fn is_halted(image: &[u8]) -> bool {
     let seat = usize::from(image[CHECKPOINT_SIZE]);
-    let standing = image.get(18 + 5 * seat);
-    match (standing, image[IMAGE_SIZE - 1]) {
-        (Some(3), _) => (3, 3),
-        (_, 10) => (4, 17),
-        _ => (4, 19),
+    image.get(18 + 5 * seat) == Some(&3)
+}
+
+/// What a node answers to such a query: 3 where it is halted, 17 where the door is locked, else 19.
+fn asked_of(image: &[u8], door: usize) -> u32 {
+    match image[MISSES_AT + door] {
+        _ if is_halted(image) => 3,
+        10 => 17,
+        _ => 19,
     }
 }

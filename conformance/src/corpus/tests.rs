@@ -47,8 +47,8 @@ fn a_name_stands_for_a_record() {
     let image =
         "let park\ncheckpoint cycle 1 day 1 trustees 1 1 m 0 k 1 S 1\n seat 0 present life 1\n\
                  same park\nown seat 0 life 1 misses 3";
-    assert_eq!(bytes(image).len(), 1139);
-    assert_eq!(bytes(image)[1138], 3);
+    assert_eq!(bytes(image).len(), 1142);
+    assert_eq!(bytes(image)[1138..], [3, 0, 0, 0]);
 }
 
 #[test]
@@ -291,7 +291,7 @@ fn calls_for_c() {
         calls[..16],
         [0, 0, 0, 0, 84, 4, 0, 0, 9, 0, 0, 0, 0, 0, 0, 0]
     );
-    let sizes = 1108 + 9 + (1139 + 24 + 7) + (1139 + 24 + 17) + 3 * (1139 + 13);
+    let sizes = 1108 + 9 + (1142 + 24 + 7) + (1142 + 24 + 17) + 3 * (1142 + 13);
     assert_eq!(calls.len(), 6 * 16 + sizes);
 }
 
@@ -300,12 +300,12 @@ fn calls_for_c() {
 fn a_page_for_c() {
     let runs = read(&example("given 0", "").1).unwrap();
     let calls = export::calls(&runs).unwrap();
-    let page = &calls[calls.len() - (16 + 1139 + 4)..];
+    let page = &calls[calls.len() - (16 + 1142 + 4)..];
     assert_eq!(
         page[..16],
-        [4, 0, 0, 0, 115, 4, 0, 0, 4, 0, 0, 0, 0, 0, 0, 0]
+        [4, 0, 0, 0, 118, 4, 0, 0, 4, 0, 0, 0, 0, 0, 0, 0]
     );
-    assert_eq!(page[16 + 1139..], [120, 0, 0, 0]);
+    assert_eq!(page[16 + 1142..], [120, 0, 0, 0]);
 }
 
 /// The day and the cycle of a roster stand behind it.

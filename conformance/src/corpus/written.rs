@@ -4,8 +4,8 @@
 
 use super::call::{Call, Numbers, Sort};
 use crate::compare::call::VOTED;
-use crate::layout::{self, ANNOUNCEMENT_SIZE, ARGUMENTS, CHECKPOINT_SIZE, IMAGE_SIZE, LOGIN};
-use crate::layout::{MISSES_AT, VOTE, VOTED_AT};
+use crate::layout::{self, door_of, kind_of, least_size, ANNOUNCEMENT_SIZE, ARGUMENTS};
+use crate::layout::{CHECKPOINT_SIZE, IMAGE_SIZE, LOGIN, MISSES_AT, VOTE, VOTED_AT};
 
 const OWN_AT: usize = CHECKPOINT_SIZE;
 
@@ -14,7 +14,7 @@ pub fn check(call: &Call, number: u32, written: &[u8]) -> Result<(), String> {
     let whole: &[usize] = match call.sort {
         Sort::Start => &[CHECKPOINT_SIZE, 9],
         Sort::Deliver => &[IMAGE_SIZE, 24],
-        Sort::Query => &[IMAGE_SIZE, 13],
+        Sort::Query => &[IMAGE_SIZE, least_size(kind_of(&call.slices[1]))],
         Sort::Checkpoint | Sort::Page => &[IMAGE_SIZE],
         Sort::Import => &[],
         Sort::Export => &[ANNOUNCEMENT_SIZE],
@@ -45,11 +45,18 @@ fn expected(call: &Call, number: u32, written: &[u8]) -> Vec<u8> {
             out[VOTE].copy_from_slice(&call.slices[1]);
         }
         (Sort::Deliver, _) => performed(&mut out, &call.slices[1], written),
-        // "19, 20 and 21 add a miss; open sets misses to 0"
-        (Sort::Query, 0) => out[MISSES_AT] = 0,
-        (Sort::Query, _) => out[MISSES_AT] = out[MISSES_AT].wrapping_add(1),
+        (Sort::Query, _) => asked(&mut out, &call.slices[1], number),
     }
     out
+}
+
+/// "19, 20 and 21 add a miss; open sets misses to 0", at the asked door alone (request A5).
+fn asked(image: &mut [u8], query: &[u8], number: u32) {
+    let misses = &mut image[MISSES_AT + door_of(query)];
+    *misses = match number {
+        0 => 0,
+        _ => misses.wrapping_add(1),
+    };
 }
 
 /// "cycle plus 1, day as announced, vote cleared, misses 0"; the numbers of trustees stay.

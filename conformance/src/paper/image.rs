@@ -1,15 +1,17 @@
-//! "Image for C, 1,139 bytes", and the calls of document 01 as C sees them.
+//! "Image for C", which "grows by 3 bytes at its end" (request A5), and the calls of document 01 as C
+//! sees them.
 
 use super::announcement::Announcement;
 use super::bytes::{all_zero, push_u32, require, Read, Reader};
 use super::checkpoint;
-use super::node::Node;
+use super::node::{Node, DOORS};
 use super::records::{Query, Sheet, Start};
 use super::start::start_read;
 use super::state::{Standing, State};
 use super::Answer::{self, Done, Given, No, Open, Started, Voted};
 
-pub const SIZE: usize = 1139;
+/// "1,139 bytes" and "the counts of doors 1 to 3"
+pub const SIZE: usize = 1142;
 
 impl Node {
     pub fn from_image(image: &[u8]) -> Option<Node> {
@@ -23,13 +25,14 @@ impl Node {
         out.push(u8::from(self.vote.is_some()));
         let vote = self.vote.clone().unwrap_or(vec![0; 24]);
         out.extend(vote);
-        out.push(self.misses);
+        out.extend(self.misses);
         out
     }
 }
 
 /// "checkpoint; seat 1, life 4 (at least 1), voted flag 1 (0 or 1), voted announcement 24 (zero if
-/// none, else well formed and of this cycle), misses 1. The seat isn't free."
+/// none, else well formed and of this cycle), misses 1. The seat isn't free." The misses byte is door
+/// 0's count, "the counts of doors 1 to 3" follow it (request A5).
 fn read(image: &[u8]) -> Read<Node> {
     let mut reader = Reader::new(image);
     let state = checkpoint::read(reader.take(checkpoint::SIZE)?)?;
@@ -38,8 +41,7 @@ fn read(image: &[u8]) -> Read<Node> {
     let life = reader.u32()?;
     require(life >= 1)?;
     let vote = read_vote(&mut reader, &state)?;
-    let misses = reader.u8()?;
-    require(misses <= 10)?;
+    let misses = read_misses(&mut reader)?;
     reader.end()?;
     Ok(Node {
         state,
@@ -63,6 +65,16 @@ fn read_vote(reader: &mut Reader, state: &State) -> Read<Option<Vec<u8>>> {
     Ok(Some(bytes.to_vec()))
 }
 
+/// "A door above 3 or a lent count above 10 is rule 1." (request A5)
+fn read_misses(reader: &mut Reader) -> Read<[u8; DOORS]> {
+    let mut misses = [0; DOORS];
+    for count in &mut misses {
+        *count = reader.u8()?;
+        require(*count <= 10)?;
+    }
+    Ok(misses)
+}
+
 /// What C gets for an answer.
 pub fn code(answer: Answer) -> u32 {
     match answer {
@@ -78,7 +90,8 @@ fn writes_image(answer: Answer) -> bool {
     matches!(answer, Started | Voted | Done | Open | No(19..=21))
 }
 
-/// "output slice shorter than 1,108 (checkpoint) or 1,139 (image)"
+/// "output slice shorter than 1,108 (checkpoint) or 1,139 (image)"; the image grows by 3 bytes, "and
+/// rule 22's image size with it" (request A5).
 fn is_short(out: &[u8], size: usize) -> bool {
     out.len() < size
 }

@@ -6,15 +6,18 @@ use super::state::{Standing, State};
 use super::Answer::{self, Done, No, Voted};
 use super::{actions, checkpoint, rules};
 
+/// "one miss count, still 0 to 10, for each of doors 0 to 3" (request A5)
+pub const DOORS: usize = 4;
+
 /// The state and the "Own part: seat, life, the announcement voted for in this cycle if any, misses
-/// (0 to 10)".
+/// (0 to 10)", these by door.
 #[derive(Debug, Clone, PartialEq, Eq)]
 pub struct Node {
     pub(super) state: State,
     pub(super) seat: u8,
     pub(super) life: u32,
     pub(super) vote: Option<Vec<u8>>,
-    pub(super) misses: u8,
+    pub(super) misses: [u8; DOORS],
 }
 
 impl Node {
@@ -60,11 +63,12 @@ impl Node {
         self.vote(announcement)
     }
 
-    /// "the node performs it: cycle plus 1, day as announced, vote cleared, misses 0"
+    /// "the node performs it: cycle plus 1, day as announced, vote cleared, misses 0"; request A5: "A
+    /// performed action clears all four."
     fn perform(&mut self, left: &State, announcement: &Announcement) {
         self.state = actions::perform(left, announcement);
         self.vote = None;
-        self.misses = 0;
+        self.misses = [0; DOORS];
     }
 
     /// "Without a quorum it votes, unless 15 or 16 applies"

@@ -25,8 +25,14 @@ impl Node {
 
     /// "The last word must agree with what rules 18 and 20 give for the given day."
     fn word(&self, login: u32, given: Day) -> &'static str {
-        let (day, right) = (given, 0);
-        let query = Query { login, day, right };
+        // Neither rule looks at the right or the door.
+        let (day, right, door) = (given, 0, 0);
+        let query = Query {
+            login,
+            day,
+            right,
+            door,
+        };
         // "Silent wins over ended."
         let mut numbers = [18, 20].into_iter();
         match numbers.find(|number| self.query_refused(*number, &query)) {

@@ -1,4 +1,4 @@
-//! Whether a login may use a right on a day.
+//! Whether a login may use a right on a day, at a door.
 
 use super::node::Node;
 use super::records::Query;
@@ -13,17 +13,19 @@ impl Node {
     }
 
     /// "Open when nothing below applies. 19, 20 and 21 add a miss; open sets misses to 0; 17 and 18
-    /// don't touch them."
+    /// don't touch them." The misses are those of the asked door (request A5).
     pub(super) fn query_read(&mut self, query: &Query) -> Answer {
         if self.is_halted() {
             return No(3);
         }
-        let Some(number) = self.query_refusal(query) else {
-            self.misses = 0;
+        let refusal = self.query_refusal(query);
+        let misses = &mut self.misses[usize::from(query.door)];
+        let Some(number) = refusal else {
+            *misses = 0;
             return Open;
         };
         if matches!(number, 19..=21) {
-            self.misses += 1;
+            *misses += 1;
         }
         No(number)
     }
@@ -40,7 +42,7 @@ impl Node {
         let login = self.state.logins.get(&query.login);
         match number {
             // "misses are 10"
-            17 => self.misses == 10,
+            17 => self.misses[usize::from(query.door)] == 10,
             // "t minus agreed day above S"
             18 => t.since(self.state.day) > silence,
             // "login not listed"

@@ -73,23 +73,41 @@ impl Start {
     }
 }
 
-/// "Query, kind 20: login 4, day 4, right 1 (0 to 15)."
+/// "Query, kind 20: login 4, day 4, right 1 (0 to 15)." Request A5: "A new query, kind 21, carries
+/// the door in a byte after the right".
 #[derive(Debug, Clone, Copy, PartialEq, Eq)]
 pub struct Query {
     pub login: u32,
     pub day: Day,
     pub right: u8,
+    pub door: u8,
 }
 
 impl Query {
     pub fn read(bytes: &[u8]) -> Read<Self> {
         let (kind, mut reader) = record(bytes)?;
-        require(kind == 20)?;
+        require(kind == 20 || kind == 21)?;
         let login = reader.u32()?;
         let day = Day::new(reader.u32()?);
         let right = reader.u8()?;
         require(right <= 15)?;
+        let door = read_door(kind, &mut reader)?;
         reader.end()?;
-        Ok(Query { login, day, right })
+        Ok(Query {
+            login,
+            day,
+            right,
+            door,
+        })
     }
+}
+
+/// "kind 20 means door 0"; "A door above 3 .. is rule 1" (request A5).
+fn read_door(kind: u16, reader: &mut Reader) -> Read<u8> {
+    if kind == 20 {
+        return Ok(0);
+    }
+    let door = reader.u8()?;
+    require(door <= 3)?;
+    Ok(door)
 }

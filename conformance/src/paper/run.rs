@@ -56,6 +56,7 @@ fn least_size(kind: u16) -> Option<usize> {
         18 => 7,
         19 => 9,
         20 => 13,
+        21 => 14,
         _ => return None,
     })
 }
@@ -108,8 +109,9 @@ impl<'a> Run<'a> {
                 Ok(self.start(checkpoint, first))
             }
             1..=9 => self.deliver(first),
-            // "an announcement or query before any node" ends the run.
-            20 => Ok(self.node.as_mut().ok_or(Ends)?.query(first)),
+            // "an announcement or query before any node" ends the run. Request A5: "node-run places 21
+            // as a query".
+            20 | 21 => Ok(self.node.as_mut().ok_or(Ends)?.query(first)),
             _ => Err(Ends),
         }
     }

@@ -1,7 +1,7 @@
 //! "Commissioning is a start from the park's first checkpoint."
 
 use super::checkpoint;
-use super::node::Node;
+use super::node::{Node, DOORS};
 use super::records::Start;
 use super::state::State;
 
@@ -13,7 +13,7 @@ pub fn start(checkpoint: &[u8], start: &[u8]) -> Result<Node, u8> {
     }
 }
 
-/// "Misses 0, no vote. A life above the listed one is taken".
+/// "Misses 0, no vote. A life above the listed one is taken". The misses of all doors are 0.
 pub(super) fn start_read(state: State, start: Start) -> Result<Node, u8> {
     let listed = state.seat(start.seat);
     // "start: free or retired"
@@ -29,6 +29,6 @@ pub(super) fn start_read(state: State, start: Start) -> Result<Node, u8> {
         seat: start.seat,
         life: start.life,
         vote: None,
-        misses: 0,
+        misses: [0; DOORS],
     })
 }

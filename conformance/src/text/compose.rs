@@ -5,8 +5,8 @@ mod own;
 pub mod words;
 
 use crate::layout::{record, Field, Form, ACTIONS, ARGUMENTS_SIZE, SUBJECT_SIZE};
-use crate::layout::{CYCLE_AND_DAY, LIFE, MASKS, QUERY, ROW_COUNT, SEAT, START};
-use crate::layout::{QUERY_KIND, SHEET_KIND, START_KIND};
+use crate::layout::{CYCLE_AND_DAY, DOOR, LIFE, MASKS, QUERY, ROW_COUNT, SEAT, START};
+use crate::layout::{DOOR_QUERY_KIND, QUERY_KIND, SHEET_KIND, START_KIND};
 use words::{Error, Parse, Word, Words};
 
 /// The bytes of a text, and where they come from.
@@ -62,7 +62,7 @@ fn compose_text(text: &str) -> Result<Composed, Error> {
 fn one_line(first: Word, line: &mut Words) -> Parse<Vec<u8>> {
     let bytes = match first.text {
         "start" => record(START_KIND, &values(line, &START)?),
-        "query" => record(QUERY_KIND, &values(line, &QUERY)?),
+        "query" => query(line)?,
         "announce" => announcement(line)?,
         "sheet" => sheet(line)?,
         "bytes" => raw(line)?,
@@ -120,6 +120,16 @@ fn bits(line: &mut Words, field: &Field) -> Parse<u32> {
         set |= bit;
     }
     Ok(set)
+}
+
+/// What follows `query`: one that names its door has a kind of its own.
+fn query(line: &mut Words) -> Parse<Vec<u8>> {
+    let mut body = values(line, &QUERY)?;
+    if !line.begins_with(&[DOOR.name]) {
+        return Ok(record(QUERY_KIND, &body));
+    }
+    body.extend(values(line, &[DOOR])?);
+    Ok(record(DOOR_QUERY_KIND, &body))
 }
 
 /// What follows `announce`.

@@ -5,8 +5,8 @@ mod checkpoint;
 mod own;
 mod records;
 
-use crate::layout::{framed, kind_of, number_at, CHECKPOINT_KIND, CHECKPOINT_SIZE, IMAGE_SIZE};
-use crate::layout::{QUERY, QUERY_KIND, SHEET_KIND, START, START_KIND};
+use crate::layout::{framed, kind_of, number_at, query_fields, CHECKPOINT_KIND, CHECKPOINT_SIZE};
+use crate::layout::{DOOR_QUERY_KIND, IMAGE_SIZE, QUERY_KIND, SHEET_KIND, START, START_KIND};
 use bytes::{malformed, Read};
 use checkpoint::checkpoint;
 use records::{announcement, sheet, simple};
@@ -31,7 +31,7 @@ pub struct Part<'a> {
 /// An image, where the input is one, and records otherwise.
 pub fn show(input: &[u8]) -> Shown {
     let records = shown(&parts_of_records(input));
-    // A checkpoint and 31 bytes of other records have the size of an image too.
+    // A checkpoint and 34 bytes of other records have the size of an image too.
     let is_image = input.len() == IMAGE_SIZE && records.malformed;
     if is_image && framed(input) == CHECKPOINT_SIZE && kind_of(input) == CHECKPOINT_KIND {
         show_image(input)
@@ -83,7 +83,7 @@ fn record(bytes: &[u8]) -> Read<String> {
         CHECKPOINT_KIND => checkpoint(bytes),
         SHEET_KIND => sheet(bytes),
         START_KIND => simple("start", &START, bytes),
-        QUERY_KIND => simple("query", &QUERY, bytes),
+        kind @ (QUERY_KIND | DOOR_QUERY_KIND) => simple("query", query_fields(kind), bytes),
         kind => malformed(2, format!("kind {kind} is not that of a record")),
     }
 }

@@ -2,7 +2,9 @@
 
 use super::compose::Composed;
 use super::show::{parts_of_image, parts_of_records, Part};
-use crate::layout::{kind_of, CHECKPOINT_KIND, QUERY_KIND, SHEET_KIND, START_KIND};
+use crate::layout::{
+    kind_of, CHECKPOINT_KIND, DOOR_QUERY_KIND, QUERY_KIND, SHEET_KIND, START_KIND,
+};
 use crate::paper::announcement::Announcement;
 use crate::paper::records::{Query, Sheet, Start};
 use crate::paper::{checkpoint, Node};
@@ -42,7 +44,7 @@ pub fn refusal(record: &[u8]) -> Option<u8> {
         SHEET_KIND if Sheet::read(record).is_err() => return Some(2),
         SHEET_KIND => true,
         START_KIND => Start::read(record).is_ok(),
-        QUERY_KIND => Query::read(record).is_ok(),
+        QUERY_KIND | DOOR_QUERY_KIND => Query::read(record).is_ok(),
         _ => false,
     };
     (!is_read).then_some(1)

@@ -1,6 +1,6 @@
 -- What a call leaves at its host, by value and through C.
-use mathlib.Core.Path.{_≡_, refl, sym, ap, _∙_}
-use mathlib.Core.Logic.{_⊎_, inl, inr}
+use mathlib.Core.Path.{_≡_, refl, sym, ap, _∙_, subst}
+use mathlib.Core.Logic.{_≢_, _⊎_, inl, inr}
 use mathlib.Core.Bool.{Bool, true, false, cond}
 use mathlib.Core.List.{List}
 use mathlib.Core.Option.{Option, none, some, Option·some-injective}
@@ -69,6 +69,12 @@ front bytes out n e = take-at bytes (drop (length bytes) out) n e
 abbrev pub Kept : Cluster → ℕ → HandedBack → Outcome → Type 0
 Kept w i r x = (x .after ≡ w) ⊎ (Writes (r .number) × (x ≡ answers (r .number) (putImage w i (imageBytes (r .node)))))
 
+-- no image is written with 1 or 22
+pub not-written : {k : ℕ} → Writes k → (k ≢ 1) × (k ≢ 22)
+not-written (inl e) = (λ z. omega arith, λ z. omega arith)
+not-written (inr (inl e)) = (λ z. omega arith, λ z. omega arith)
+not-written (inr (inr m)) = (λ z. omega arith, λ z. omega arith)
+
 module _ (w : Cluster) (i : ℕ) (r : HandedBack) (out : List ℕ) (fine : Writes (r .number) → WellFormedNode (r .node)) where
   -- with these bytes kept or not
   held : Bool → List ℕ → Cluster
@@ -91,12 +97,12 @@ module _ (w : Cluster) (i : ℕ) (r : HandedBack) (out : List ℕ) (fine : Write
   by-returning x (leaves n p e) = inl
       (ap (λ (y : Returned). keepImage w i y .after) e ∙ ap (λ (b : Bool). held b (take imageSize out)) (leaves-to (r .number) n))
 
-  -- a call that returns 128 handed back 128
-  returned-voted : (x : Returned) → Returning r out x → x .number ≡ 128 → (r .number ≡ 128) ×
+  -- a call that returns a number with which an image is written handed back that number
+  returned-written : (x : Returned) → Returning r out x → (k : ℕ) → Writes k → x .number ≡ k → (r .number ≡ k) ×
       (keepImage w i x ≡ answers (r .number) (putImage w i (imageBytes (r .node))))
-  returned-voted x (no-room l a b e) z = let q : x .number ≡ 22 = ap (λ (y : Returned). y .number) e in absurd (omega arith)
-  returned-voted x (writes l v e) z = (sym (ap (λ (y : Returned). y .number) e) ∙ z, written x v e)
-  returned-voted x (leaves n p e) z = absurd (n (inr (inl (sym (ap (λ (y : Returned). y .number) e) ∙ z))))
+  returned-written x (no-room l a b e) k y z = absurd (not-written y .1 (sym z ∙ ap (λ (y : Returned). y .number) e))
+  returned-written x (writes l v e) k y z = (sym (ap (λ (y : Returned). y .number) e) ∙ z, written x v e)
+  returned-written x (leaves n p e) k y z = absurd (n (subst Writes (sym z ∙ ap (λ (y : Returned). y .number) e) y))
 
   pub kept : Kept w i r (keepImage w i (return r out))
   kept = by-returning (return r out) (calls-return r out)
@@ -111,7 +117,7 @@ held-image b n = go (readImage b .ok) refl
     go true e f = (e, Option·some-injective (readImage b .node) n f)
     go false e f = clash (cc)
 
-on-image : (f : Node → HandedBack) (b out : List ℕ) (n : Node) → imageNode (some b) ≡ some n → onImage f b out ≡ return (f n) out
+pub on-image : (f : Node → HandedBack) (b out : List ℕ) (n : Node) → imageNode (some b) ≡ some n → onImage f b out ≡ return (f n) out
 unfolding onImage
 on-image f b out n e = let h = held-image b n e in rw (h .0, h .1)
 
@@ -174,22 +180,22 @@ ran w (throughC i) f out fine = go (w .images i) refl
             with n held (on-image f b out n is) (kept w i (f n) out (λ h. fine n held))
         read false t = inl (ap (λ (r : Returned). keepImage w i r .after) (unread f b out t))
 
--- a call that is answered 128 leaves what f hands back
-pub voted-left : (w : Cluster) (h : Host) (f : Node → HandedBack) (out : List ℕ) (n : Node) → WellFormedNode (f n .node) → nodeAt w h ≡ some n
-    → onHost w h f out .answer ≡ some 128 → (f n .number ≡ 128) × (onHost w h f out .after ≡ leave w h (f n .node))
-voted-left w (byValue i) f out n fine e a = (
-  Option·some-injective (f n .number) 128 (ap (λ (o : Option Node). onNode w i f o .answer) (sym e) ∙ a),
+-- a call that is answered by a number with which an image is written leaves what f hands back
+pub written-left : (w : Cluster) (h : Host) (f : Node → HandedBack) (out : List ℕ) (n : Node) → WellFormedNode (f n .node) → nodeAt w h ≡ some n
+    → (k : ℕ) → Writes k → onHost w h f out .answer ≡ some k → (f n .number ≡ k) × (onHost w h f out .after ≡ leave w h (f n .node))
+written-left w (byValue i) f out n fine e k y a = (
+  Option·some-injective (f n .number) k (ap (λ (o : Option Node). onNode w i f o .answer) (sym e) ∙ a),
   ap (λ (o : Option Node). onNode w i f o .after) e,
 )
-voted-left w (throughC i) f out n fine e a = go (w .images i) e a
+written-left w (throughC i) f out n fine e k y a = go (w .images i) e a
   where
-    go : (o : Option (List ℕ)) → imageNode o ≡ some n → onHeldImage w i (λ b. onImage f b out) o .answer ≡ some 128
-        → (f n .number ≡ 128) × (onHeldImage w i (λ b. onImage f b out) o .after ≡ leave w (throughC i) (f n .node))
+    go : (o : Option (List ℕ)) → imageNode o ≡ some n → onHeldImage w i (λ b. onImage f b out) o .answer ≡ some k
+        → (f n .number ≡ k) × (onHeldImage w i (λ b. onImage f b out) o .after ≡ leave w (throughC i) (f n .node))
     go none e a = clash (cc)
     go (some b) e a =
         let q = on-image f b out n e in
-        let said = ap (λ (r : Returned). r .number) (sym q) ∙ Option·some-injective (onImage f b out .number) 128 a in
-        let t = returned-voted w i (f n) out (λ v. fine) (return (f n) out) (calls-return (f n) out) said in
+        let said = ap (λ (r : Returned). r .number) (sym q) ∙ Option·some-injective (onImage f b out .number) k a in
+        let t = returned-written w i (f n) out (λ v. fine) (return (f n) out) (calls-return (f n) out) k y said in
         (t .0, ap (λ (r : Returned). keepImage w i r .after) q ∙ ap (λ (x : Outcome). x .after) (t .1))
 
 -- ---- start

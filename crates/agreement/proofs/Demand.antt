@@ -76,7 +76,7 @@ opened n qb q rq r (Node.refuses k l y e) z =
     let range = query-numbers y in
     let w : queryNumber (r .answer) ≡ k = ap (λ (x : QueryReply). queryNumber (x .answer)) e in
     absurd (omega arith)
-opened n qb q rq r (Node.misses k l m y e) z =
+opened n qb q rq r (Node.misses k x l rx m y e) z =
     let w : queryNumber (r .answer) ≡ k = ap (λ (x : QueryReply). queryNumber (x .answer)) e in
     absurd (omega arith)
 opened n qb q rq r (Node.opens p rp o e) z =

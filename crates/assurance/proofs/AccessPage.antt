@@ -5,11 +5,9 @@ use mathlib.Core.Bool.{Bool, true, false, and-eq-true-iff, true≢false}
 use mathlib.Core.List.{List, map, map-map, List·Memᴰ, List·Memᴰ·head, List·Memᴰ·tail}
 use Prim.Native.Nat.{ℕ, _*_, _<_}
 use native.Mathlib.Omega.{arith}
-use lib.Dec.{eqb}
 use lib.ListN.{length, length-map}
-use borrow.Author.Tests.{eqb-true, eq-eqb, ne-eqb, lt-leb}
+use borrow.Author.Tests.{eq-eqb, ne-eqb, lt-leb}
 use Rattle.lists.specs.Fold.{first}
-use Rattle.lists.proofs.Tests.{cond-cases}
 use Rattle.lists.proofs.Every.{All, all-map, all-mapped, all-keep}
 use Rattle.lists.proofs.Members.{all-in, to-keep, of-keep}
 use Rattle.lists.proofs.Count.{length-kept}
@@ -34,28 +32,22 @@ use Rattle.page.proofs.ReadBack.{line-back}
 use Rattle.page.proofs.Rows.{InWidth, line-fits, lines-size}
 use Rattle.records.specs.declared.Query.{Query}
 use Rattle.records.specs.declared.QueryRead.{QueryRead}
-use Rattle.records.specs.declared.QueryRead.the-variants as Q
 use Rattle.checkpoint.specs.Format.{login}
 use Rattle.checkpoint.specs.Checkpoint.{Fits}
-use Rattle.verdicts.specs.Own.{mostMisses, heldSeat}
+use Rattle.verdicts.specs.Own.{heldSeat}
+use Rattle.verdicts.specs.Attempts.{mostMisses, missesAt}
+use Rattle.verdicts.proofs.Misses.{all-in-range}
 use Rattle.verdicts.specs.Verdicts.{loginRefusal, queryRefusal}
 use Rattle.node.specs.declared.Node.{Node}
-use Rattle.node.specs.declared.QueryReply.{QueryReply}
 use Rattle.node.specs.Answers.{queryNumber}
-use Rattle.node.specs.Query.{addsMiss, queryReply, queryRecord, queryOf}
+use Rattle.node.specs.Query.{askRecord, askOf, queryOf}
+use Rattle.node.proofs.QueryLowest.{answer-number}
 use Rattle.node.specs.Page.{pageOf, pageSlice}
 use Rattle.agreement.proofs.Demand.{same-state}
 use Rattle.assurance.specs.AccessPage.{lineIn, numberOf, WordAgrees, PageRowsAreFound, PageReadBack, Shown}
 use Rattle.assurance.specs.AccessPage.{SamePageSameList, PageKeepsNode, PagesAgree}
 
 -- ---- the word and the query
-
--- a query answers the number of its refusal
-answered : (n : Node) (k : ℕ) → queryNumber (queryReply n k .answer) ≡ k
-unfolding queryReply
-answered n k =
-    cond-cases (λ (r : QueryReply). queryNumber (r .answer) ≡ k) (eqb k 0) (λ e. sym (eqb-true k 0 e))
-    (λ _. cond-cases (λ (r : QueryReply). queryNumber (r .answer) ≡ k) (addsMiss k) (λ _. refl) (λ _. refl))
 
 module _ (n : Node) (q : Query) where
   abbrev t : Day
@@ -64,21 +56,22 @@ module _ (n : Node) (q : Query) where
   abbrev found : Login
   found = findLogin (q .login) (n .state .logins)
 
-  by-rules : heldSeat (n .state) (n .own) .standing ≢ retired → n .own .misses < mostMisses → isLogin found ≡ true
-      → holdsRight (q .right) found ≡ true → queryRefusal (n .state) (n .own) q ≡ numberOf (lineIn (n .state) (q .day) found .word)
+  by-rules : heldSeat (n .state) (n .own) .standing ≢ retired → missesAt (q .door) (n .counts) < mostMisses → isLogin found ≡ true
+      → holdsRight (q .right) found ≡ true → queryRefusal (n .state) (n .own) (n .counts) q ≡ numberOf (lineIn (n .state) (q .day) found .word)
   unfolding queryRefusal loginRefusal
   by-rules runs unlocked is-listed holds = at (isSilentOn (n .state) (q .day)) refl (isEnded t found) refl
     where
       at : (s : Bool) → isSilentOn (n .state) (q .day) ≡ s → (e : Bool) → isEnded t found ≡ e
-          → queryRefusal (n .state) (n .own) q ≡ numberOf (lineIn (n .state) (q .day) found .word)
+          → queryRefusal (n .state) (n .own) (n .counts) q ≡ numberOf (lineIn (n .state) (q .day) found .word)
       at true a e b = rw (ne-eqb _ _ runs, lt-leb _ _ unlocked, a)
       at false a true b = rw (ne-eqb _ _ runs, lt-leb _ _ unlocked, a, is-listed, b)
       at false a false b = rw (ne-eqb _ _ runs, lt-leb _ _ unlocked, a, is-listed, b, holds)
 
 pub word-agrees : WordAgrees
-unfolding queryOf isListed
-word-agrees n qb q rq runs unlocked is-listed holds =
-    ap (λ (x : QueryRead). queryNumber (queryRecord n x .answer)) rq ∙ answered n (queryRefusal (n .state) (n .own) q)
+unfolding queryOf askOf isListed
+word-agrees n qb q rq within runs unlocked is-listed holds =
+    ap (λ (x : QueryRead). queryNumber (askRecord (n .state) (n .own) (n .counts) x .answer)) rq
+    ∙ rw (all-in-range (n .counts) within) (answer-number (n .counts) (q .door) (queryRefusal (n .state) (n .own) (n .counts) q))
     ∙ by-rules n q runs unlocked is-listed holds
 
 -- ---- the rows of the page

@@ -20,7 +20,6 @@ use Rattle.rules.specs.Rules.{timeRefusal, actionRefusal}
 use Rattle.node.specs.declared.Node.{Node}
 use Rattle.node.specs.declared.DeliverAnswer.the-variants.{Done, Refused}
 use Rattle.node.specs.declared.DeliverReply.{DeliverReply}
-use Rattle.node.specs.declared.QueryReply.{QueryReply}
 use Rattle.node.specs.Answers.{deliverNumber}
 use Rattle.node.specs.Deliver as Deliver
 use Rattle.verdicts.specs.Verdicts.{deliverRefusal, showsQuorum}
@@ -28,10 +27,9 @@ use Rattle.node.specs.Deliver.{deliverRead, deliverRecords, deliverOf}
 use Rattle.node.specs.Query.{queryOf}
 use Rattle.node.specs.Checkpoint.{checkpointOf, checkpointSlice}
 use Rattle.node.specs.Claims.{Accepted, ShowsQuorum, DeliverRefused, announcement-malformed, sheet-malformed, rule, may-not-vote, voted-otherwise}
-use Rattle.node.specs.Claims.{Delivery, Asking, refuses, votes, performs, misses, opens}
+use Rattle.node.specs.Claims.{Delivery, refuses, votes, performs}
 use Rattle.node.proofs.Deliver.{deliver-comes-to}
 use Rattle.node.proofs.Numbers.{deliver-numbers}
-use Rattle.node.proofs.Query.{query-comes-to}
 use Rattle.node.specs.WellFormed.{isWellFormedVote, isWellFormedOwn}
 use Rattle.examples.proofs.Compute.{calls-by-value}
 use Rattle.assurance.specs.Interference.{CheckpointOfState, QueryKeepsState, Alike, RulesOfState, QueryKeepsAlike, OwnSeatMatters, SameQuorum}
@@ -45,13 +43,9 @@ pub checkpoint-of-state : CheckpointOfState
 unfolding checkpointOf checkpointSlice
 checkpoint-of-state n k e out = (refl, rw e)
 
-asked-state : (n : Node) (qb : List ℕ) (r : QueryReply) → Asking n qb r → (r .node .state ≡ n .state) × (r .node .own .seat ≡ n .own .seat)
-asked-state n qb r (refuses k l y e) = (ap (λ (x : QueryReply). x .node .state) e, ap (λ (x : QueryReply). x .node .own .seat) e)
-asked-state n qb r (misses k l m y e) = (ap (λ (x : QueryReply). x .node .state) e, ap (λ (x : QueryReply). x .node .own .seat) e)
-asked-state n qb r (opens q rq o e) = (ap (λ (x : QueryReply). x .node .state) e, ap (λ (x : QueryReply). x .node .own .seat) e)
-
 pub query-keeps-state : QueryKeepsState
-query-keeps-state n qb = asked-state n qb (queryOf n qb) (query-comes-to n qb)
+unfolding queryOf
+query-keeps-state n qb = (refl, refl)
 
 pub query-keeps-alike : QueryKeepsAlike
 query-keeps-alike n qb = let k = query-keeps-state n qb in record { state = k .0; halted = rw (k .0, k .1) }

@@ -2,6 +2,11 @@
 pub mod Length
 pub mod Rosters
 pub mod Refusals
+pub mod Hosts
+pub mod OneDoor
+pub mod Outcomes
+pub mod Doors
+pub mod Locked
 pub mod More
 pub mod Interference
 pub mod Progress

@@ -4,7 +4,7 @@ use mathlib.Core.Logic.{_≢_, inl, inr}
 use mathlib.Core.Bool.{Bool, true, false, cond}
 use mathlib.Core.List.{List}
 use mathlib.Core.Option.{Option, none, some, Option·some-injective}
-use Prim.Native.Nat.{ℕ, _%_}
+use Prim.Native.Nat.{ℕ, _+_, _%_}
 use native.Mathlib.Omega.{arith}
 use lib.Dec.{eqb, leb}
 use lib.ListN.{length, take}
@@ -13,6 +13,9 @@ use Rattle.lists.proofs.Tests.{clash, cond-cases}
 use Rattle.binary.specs.Number.{overwrite}
 use Rattle.state.specs.declared.Day.{Day}
 use Rattle.state.specs.Time.{cycle, day}
+use Rattle.records.specs.declared.Query.{Query}
+use Rattle.records.specs.declared.QueryRead.the-variants as Q
+use Rattle.records.specs.StartQuery.{readQuery}
 use Rattle.roster.proofs.Outcomes.{import-answers, export-answers}
 use Rattle.page.specs.Page.{lineCount, pageText}
 use Rattle.node.specs.declared.Node.{Node}
@@ -26,7 +29,9 @@ use Rattle.node.specs.Answers.{startNumber, deliverNumber, queryNumber, checkpo
 use Rattle.checkpoint.specs.Layout.{checkpointSize}
 use Rattle.node.specs.Checkpoint.{checkpointOf, checkpointSlice}
 use Rattle.node.specs.Page.{pageFits, pageOf, pageSlice}
-use Rattle.node.specs.Claims.{Starting, Delivery, Asking, refuses, starts, votes, performs, misses, opens}
+use Rattle.verdicts.specs.Attempts.{missesAt, withMisses}
+use Rattle.node.specs.Query.{withCounts}
+use Rattle.node.specs.Claims.{Starting, Delivery, Asking, oneMissMore, noMissesAt, refuses, starts, votes, performs, misses, opens}
 use Rattle.node.proofs.Start.{start-comes-to}
 use Rattle.node.proofs.Deliver.{deliver-comes-to}
 use Rattle.node.proofs.Query.{query-comes-to}
@@ -39,9 +44,9 @@ use Rattle.node_c.specs.Claims.{Writes, Returning, no-room, writes, leaves, Pag
 use Rattle.node_c.proofs.Calls.{page-returns, calls-return, writes-to, leaves-to, image-ok}
 use Rattle.agreement.specs.History.{byValue, throughC, start, deliver, query, checkpoint, Cluster, Outcome, onNode, keepImage, onHeldImage}
 use Rattle.agreement.specs.History.{keepCheckpoint, checkpointNode, checkpointImage, run}
-use Rattle.agreement.proofs.Calls.{front}
-use Rattle.assurance.specs.Refusals.{Refusal, AddsMiss, Unchanged, RefusalsChangeNothing, oneMissMore, MissedByValue, MissedThroughC}
-use Rattle.assurance.specs.Refusals.{MissesAddOne, KeepsSlice, SlicesKept}
+use Rattle.agreement.proofs.Calls.{front, not-written}
+use Rattle.assurance.specs.Refusals.{Refusal, AddsMiss, Unchanged, RefusalsChangeNothing, Counted, MissesAddOne, OpenClearsOne}
+use Rattle.assurance.specs.Refusals.{KeepsSlice, SlicesKept}
 use Rattle.assurance.proofs.Length.{missed-size}
 use Rattle.assurance.proofs.Rosters.{import-answered, export-answered, refusal-kept, return-kept}
 
@@ -79,16 +84,30 @@ deliver-same n ab sb r (performs a acc c e) h = absurd (h .0 (deliver-number e))
 query-same : (n : Node) (qb : List ℕ) (r : QueryReply) → Asking n qb r → Refusal (queryNumber (r .answer)) → ¬ AddsMiss (queryNumber (r .answer))
     → r .node ≡ n
 query-same n qb r (refuses k l y e) h m = ap (λ (x : QueryReply). x .node) e
-query-same n qb r (misses k l b y e) h m =
+query-same n qb r (misses k q l rq b y e) h m =
     let t = query-numbers y in
-    let q : queryNumber (r .answer) ≡ k = query-number e in
+    let z : queryNumber (r .answer) ≡ k = query-number e in
     absurd (m (omega arith, omega arith))
 query-same n qb r (opens q rq o e) h m = absurd (h .0 (query-number e))
 
-query-misses : (n : Node) (qb : List ℕ) (r : QueryReply) → Asking n qb r → AddsMiss (queryNumber (r .answer)) → r .node ≡ oneMissMore n
-query-misses n qb r (refuses k l y e) m = let q : queryNumber (r .answer) ≡ k = query-number e in absurd (omega arith)
-query-misses n qb r (misses k l b y e) m = ap (λ (x : QueryReply). x .node) e
+-- a query hands back its node with f of the door
+pub record CountedAt (n : Node) (qb : List ℕ) (m : Node) (f : ℕ → Node → Node) : Type 0 where
+  pub query : Query
+  pub read : readQuery qb ≡ Q.Read query
+  pub node : m ≡ f (query .door) n
+
+pub query-misses : (n : Node) (qb : List ℕ) (r : QueryReply) → Asking n qb r → AddsMiss (queryNumber (r .answer)) → CountedAt n qb (r .node) oneMissMore
+query-misses n qb r (refuses k l y e) m = let z : queryNumber (r .answer) ≡ k = query-number e in absurd (omega arith)
+query-misses n qb r (misses k q l rq b y e) m = record { query = q; read = rq; node = ap (λ (x : QueryReply). x .node) e }
 query-misses n qb r (opens q rq o e) m = let z : queryNumber (r .answer) ≡ 0 = query-number e in absurd (omega arith)
+
+query-opens : (n : Node) (qb : List ℕ) (r : QueryReply) → Asking n qb r → queryNumber (r .answer) ≡ 0 → CountedAt n qb (r .node) noMissesAt
+query-opens n qb r (refuses k l y e) z =
+    let t = query-numbers y in
+    let a : queryNumber (r .answer) ≡ k = query-number e in
+    absurd (omega arith)
+query-opens n qb r (misses k q l rq b y e) z = let a : queryNumber (r .answer) ≡ k = query-number e in absurd (omega arith)
+query-opens n qb r (opens q rq o e) z = record { query = q; read = rq; node = ap (λ (x : QueryReply). x .node) e }
 
 -- ---- what the calls for C return
 
@@ -103,16 +122,16 @@ returned-kept r out x (no-room l a b e) h m = ap (λ (y : Returned). y .slice) e
 returned-kept r out x (writes l v e) h m = absurd (no-image (x .number) h m (subst Writes (ap (λ (y : Returned). y .number) (sym e)) v))
 returned-kept r out x (leaves n p e) h m = ap (λ (y : Returned). y .slice) e
 
--- a miss is that of the call by value, and its node's image is written
-record MissReturned (r : HandedBack) (out : List ℕ) (x : Returned) : Type 0 where
-  adds : AddsMiss (r .number)
+-- with a number that writes an image, the number is that of the call by value, and its node's image is written
+record Written (r : HandedBack) (out : List ℕ) (x : Returned) : Type 0 where
+  number : r .number ≡ x .number
   slice : x .slice ≡ overwrite (imageBytes (r .node)) out
 
-returned-miss : (r : HandedBack) (out : List ℕ) (x : Returned) → Returning r out x → AddsMiss (x .number) → MissReturned r out x
-returned-miss r out x (no-room l a b e) m = let q : x .number ≡ 22 = ap (λ (y : Returned). y .number) e in absurd (omega arith)
-returned-miss r out x (writes l v e) m =
-    record { adds = subst AddsMiss (ap (λ (y : Returned). y .number) e) m; slice = ap (λ (y : Returned). y .slice) e }
-returned-miss r out x (leaves n p e) m = absurd (n (inr (inr (subst AddsMiss (ap (λ (y : Returned). y .number) e) m))))
+returned-written : (r : HandedBack) (out : List ℕ) (x : Returned) → Returning r out x → Writes (x .number) → Written r out x
+returned-written r out x (no-room l a b e) m = absurd (not-written m .1 (ap (λ (y : Returned). y .number) e))
+returned-written r out x (writes l v e) m =
+    record { number = sym (ap (λ (y : Returned). y .number) e); slice = ap (λ (y : Returned). y .slice) e }
+returned-written r out x (leaves n p e) m = absurd (n (subst Writes (ap (λ (y : Returned). y .number) e) m))
 
 -- on an image
 image-kept : (f : Node → HandedBack) (image out : List ℕ) → Refusal (onImage f image out .number) → ¬ AddsMiss (onImage f image out .number)
@@ -123,23 +142,34 @@ image-kept f image out =
     (λ e. returned-kept _ out _ (calls-return _ out))
     (λ e h m. refl)
 
-record MissOnImage (f : Node → HandedBack) (image out : List ℕ) (x : Returned) : Type 0 where
+record WrittenOn (f : Node → HandedBack) (image out : List ℕ) (x : Returned) : Type 0 where
   read : isImage image ≡ true
-  returned : MissReturned (f (readImage image .node)) out x
+  returned : Written (f (readImage image .node)) out x
 
-image-miss : (f : Node → HandedBack) (image out : List ℕ) → AddsMiss (onImage f image out .number) → MissOnImage f image out (onImage f image out)
+image-written : (f : Node → HandedBack) (image out : List ℕ) → Writes (onImage f image out .number) → WrittenOn f image out (onImage f image out)
 unfolding onImage
-image-miss f image out =
-    cond-cases (λ (x : Returned). AddsMiss (x .number) → MissOnImage f image out x) (readImage image .ok)
-    (λ e m. record { read = sym (image-ok image) ∙ e; returned = returned-miss _ out _ (calls-return _ out) m })
-    (λ e m. absurd (omega arith))
+image-written f image out =
+    cond-cases (λ (x : Returned). Writes (x .number) → WrittenOn f image out x) (readImage image .ok)
+    (λ e m. record { read = sym (image-ok image) ∙ e; returned = returned-written _ out _ (calls-return _ out) m })
+    (λ e m. absurd (not-written m .0 refl))
 
--- the node with one miss more, for a query on an image
-query-image : (image qb out : List ℕ) → MissOnImage (asked qb) image out (onImage (asked qb) image out)
-    → onImage (asked qb) image out .slice ≡ overwrite (imageBytes (oneMissMore (readImage image .node))) out
-query-image image qb out x =
-    x .returned .slice ∙ ap (λ (n : Node). overwrite (imageBytes n) out)
-    (query-misses (readImage image .node) qb _ (query-comes-to (readImage image .node) qb) (x .returned .adds))
+-- a miss writes an image
+miss-writes : {k : ℕ} → AddsMiss k → Writes k
+miss-writes m = inr (inr m)
+
+-- the slice after a query on an image that left f of its door
+counted-slice : (image qb out : List ℕ) (f : ℕ → Node → Node) (q : Query) → WrittenOn (asked qb) image out (onImage (asked qb) image out)
+    → asked qb (readImage image .node) .node ≡ f (q .door) (readImage image .node)
+    → onImage (asked qb) image out .slice ≡ overwrite (imageBytes (f (q .door) (readImage image .node))) out
+counted-slice image qb out f q x e = x .returned .slice ∙ ap (λ (n : Node). overwrite (imageBytes n) out) e
+
+-- a miss on an image is one by value
+image-misses : (image qb out : List ℕ) → AddsMiss (onImage (asked qb) image out .number)
+    → CountedAt (readImage image .node) qb (asked qb (readImage image .node) .node) oneMissMore
+image-misses image qb out m =
+    let n = readImage image .node in
+    let x = image-written (asked qb) image out (miss-writes m) in
+    query-misses n qb _ (query-comes-to n qb) (subst AddsMiss (sym (x .returned .number)) m)
 
 -- a refused checkpoint
 slice-by : (bytes out : List ℕ) (b : Bool) → cond b Given (Refused 22) ≢ Given → cond b bytes out ≡ out
@@ -172,12 +202,15 @@ page-kept n d out k = by (pageFits n out)
 
 -- nor of one through C
 image-start-adds-none : (cb sb out : List ℕ) → ¬ AddsMiss (return (started cb sb) out .number)
-image-start-adds-none cb sb out m = start-adds-none cb sb _ (start-comes-to cb sb) (returned-miss _ out _ (calls-return (started cb sb) out) m .adds)
+image-start-adds-none cb sb out m =
+    let x = returned-written _ out _ (calls-return (started cb sb) out) (miss-writes m) in
+    start-adds-none cb sb _ (start-comes-to cb sb) (subst AddsMiss (sym (x .number)) m)
 
 image-deliver-adds-none : (image ab sb out : List ℕ) → ¬ AddsMiss (onImage (delivered ab sb) image out .number)
 image-deliver-adds-none image ab sb out m =
     let n = readImage image .node in
-    deliver-adds-none n ab sb _ (deliver-comes-to n ab sb) (image-miss (delivered ab sb) image out m .returned .adds)
+    let x = image-written (delivered ab sb) image out (miss-writes m) in
+    deliver-adds-none n ab sb _ (deliver-comes-to n ab sb) (subst AddsMiss (sym (x .returned .number)) m)
 
 pub slices-kept : SlicesKept
 unfolding nodeStart nodeDeliver nodeQuery nodeRosterImport nodeRosterExport
@@ -185,7 +218,10 @@ slices-kept = record {
   start = λ cb sb out h. returned-kept _ out _ (calls-return (started cb sb) out) h (image-start-adds-none cb sb out);
   deliver = λ image ab sb out h. image-kept (delivered ab sb) image out h (image-deliver-adds-none image ab sb out);
   query = λ image qb out m h. image-kept (asked qb) image out h m;
-  miss = λ image qb out m. query-image image qb out (image-miss (asked qb) image out m);
+  miss = λ image qb out m.
+      let c = image-misses image qb out m in
+      let x = image-written (asked qb) image out (miss-writes m) in
+      (c .query, c .read, counted-slice image qb out oneMissMore (c .query) x (c .node));
   checkpoint = image-checkpoint-kept;
   checkpoint-by-value = λ n out k e. checkpoint-kept n out (λ g. let z : _≡_ {A = ℕ} 0 1 = cc in omega arith);
   page = λ image d out h. image-page-kept image d out _ (page-returns image d out) h;
@@ -264,44 +300,86 @@ put-here i x f = rw (eq-eqb i i refl)
 put-there : {A : Type 0} (i : ℕ) (x : A) (f : ℕ → Option A) (j : ℕ) → j ≢ i → cond (eqb j i) (some x) (f j) ≡ f j
 put-there i x f j n = rw (ne-eqb j i n)
 
--- a query by value
+-- a query by value that leaves f of its door
+counted-node : (w : Cluster) (i : ℕ) (qb : List ℕ) (f : ℕ → Node → Node) (n : Node) → w .nodes i ≡ some n → CountedAt n qb (asked qb n .node) f
+    → Counted w (onNode w i (asked qb) (some n) .after) (byValue i) qb f
+counted-node w i qb f n e c = record {
+  query = c .query;
+  read = c .read;
+  node = n;
+  changed = record {
+    held = e;
+    holds = put-here i (asked qb n .node) (w .nodes) ∙ ap some (c .node);
+    others = put-there i (asked qb n .node) (w .nodes);
+    images = λ j. refl;
+    given = refl;
+  };
+}
+
+-- a query through C that leaves m misses at its door: the front of the slice is the image
+counted-image : (w : Cluster) (i : ℕ) (qb out : List ℕ) (m : ℕ → Node → ℕ) (b : List ℕ) → w .images i ≡ some b
+    → let x = onImage (asked qb) b out in
+    let f : ℕ → Node → Node = λ door n. withCounts (withMisses door (m door n) (n .counts)) n in
+    Writes (x .number) → CountedAt (readImage b .node) qb (asked qb (readImage b .node) .node) f → Counted w (keepImage w i x .after) (throughC i) qb f
+counted-image w i qb out m b e v c =
+    let x = onImage (asked qb) b out in
+    let on = image-written (asked qb) b out v in
+    let n = readImage b .node in
+    let door = c .query .door in
+    let f : ℕ → Node → Node = λ door n. withCounts (withMisses door (m door n) (n .counts)) n in
+    let whole : take imageSize (x .slice) ≡ imageBytes (f door n) =
+    ap (take imageSize) (counted-slice b qb out f (c .query) on (c .node))
+    ∙ front (imageBytes (f door n)) out imageSize (missed-size b door (m door n) (on .read)) in
+    rw (writes-to (x .number) v)
+    (record {
+      query = c .query;
+      read = c .read;
+      node = n;
+      changed = record {
+        image = b;
+        held = e;
+        read = on .read;
+        node = refl;
+        holds = put-here i (take imageSize (x .slice)) (w .images) ∙ ap some whole;
+        others = put-there i (take imageSize (x .slice)) (w .images);
+        nodes = λ j. refl;
+        given = refl;
+      };
+    })
+
+-- a miss, and an open answer
 missed-node : (w : Cluster) (i k : ℕ) (qb : List ℕ) → AddsMiss k → (o : Option Node) → w .nodes i ≡ o → onNode w i (asked qb) o .answer ≡ some k
-    → MissedByValue w (onNode w i (asked qb) o .after) i
+    → Counted w (onNode w i (asked qb) o .after) (byValue i) qb oneMissMore
 missed-node w i k qb m none e a = clash (cc)
 missed-node w i k qb m (some n) e a =
     let q = Option·some-injective (asked qb n .number) k a in
-    let more : asked qb n .node ≡ oneMissMore n = query-misses n qb _ (query-comes-to n qb) (subst AddsMiss (sym q) m) in
-    record {
-      node = n;
-      held = e;
-      holds = put-here i (asked qb n .node) (w .nodes) ∙ ap some more;
-      others = put-there i (asked qb n .node) (w .nodes);
-      images = λ j. refl;
-      given = refl;
-    }
+    counted-node w i qb oneMissMore n e (query-misses n qb _ (query-comes-to n qb) (subst AddsMiss (sym q) m))
 
--- a query through C: the front of the slice is the image
+opened-node : (w : Cluster) (i : ℕ) (qb : List ℕ) → (o : Option Node) → w .nodes i ≡ o → onNode w i (asked qb) o .answer ≡ some 0
+    → Counted w (onNode w i (asked qb) o .after) (byValue i) qb noMissesAt
+opened-node w i qb none e a = clash (cc)
+opened-node w i qb (some n) e a =
+    counted-node w i qb noMissesAt n e (query-opens n qb _ (query-comes-to n qb) (Option·some-injective (asked qb n .number) 0 a))
+
 missed-image : (w : Cluster) (i k : ℕ) (qb out : List ℕ) → AddsMiss k → (o : Option (List ℕ)) → w .images i ≡ o
-    → onHeldImage w i (λ b. nodeQuery b qb out) o .answer ≡ some k → MissedThroughC w (onHeldImage w i (λ b. nodeQuery b qb out) o .after) i
+    → onHeldImage w i (λ b. nodeQuery b qb out) o .answer ≡ some k
+    → Counted w (onHeldImage w i (λ b. nodeQuery b qb out) o .after) (throughC i) qb oneMissMore
 unfolding nodeQuery
 missed-image w i k qb out m none e a = clash (cc)
 missed-image w i k qb out m (some b) e a =
-    let x = onImage (asked qb) b out in
-    let q : x .number ≡ k = Option·some-injective (x .number) k a in
-    let miss = image-miss (asked qb) b out (subst AddsMiss (sym q) m) in
-    let n = oneMissMore (readImage b .node) in
-    let whole : take imageSize (x .slice) ≡ imageBytes n =
-    ap (take imageSize) (query-image b qb out miss) ∙ front (imageBytes n) out imageSize (missed-size b (n .own .misses) (miss .read)) in
-    rw (writes-to (x .number) (inr (inr (subst AddsMiss (sym q) m))))
-    (record {
-      image = b;
-      held = e;
-      read = miss .read;
-      holds = put-here i (take imageSize (x .slice)) (w .images) ∙ ap some whole;
-      others = put-there i (take imageSize (x .slice)) (w .images);
-      nodes = λ j. refl;
-      given = refl;
-    })
+    let miss = subst AddsMiss (sym (Option·some-injective (onImage (asked qb) b out .number) k a)) m in
+    counted-image w i qb out (λ door n. missesAt door (n .counts) + 1) b e (miss-writes miss) (image-misses b qb out miss)
+
+opened-image : (w : Cluster) (i : ℕ) (qb out : List ℕ) → (o : Option (List ℕ)) → w .images i ≡ o
+    → onHeldImage w i (λ b. nodeQuery b qb out) o .answer ≡ some 0
+    → Counted w (onHeldImage w i (λ b. nodeQuery b qb out) o .after) (throughC i) qb noMissesAt
+unfolding nodeQuery
+opened-image w i qb out none e a = clash (cc)
+opened-image w i qb out (some b) e a =
+    let z = Option·some-injective (onImage (asked qb) b out .number) 0 a in
+    let n = readImage b .node in
+    let x = image-written (asked qb) b out (inl z) in
+    counted-image w i qb out (λ door n. 0) b e (inl z) (query-opens n qb _ (query-comes-to n qb) (x .returned .number ∙ z))
 
 -- a checkpoint is given, or refused by 1 or 22
 checkpoint-adds-none : (n : Node) (out : List ℕ) → ¬ AddsMiss (checkpointNumber (checkpointOf n out .answer))
@@ -335,3 +413,8 @@ misses-add-one w (checkpoint (byValue i) out) k a m =
     answered (λ o. ⊥) (checkpointNode w out) k refl (λ n e. not-answered _ k (checkpoint-adds-none n out) e m) (w .nodes i) a
 misses-add-one w (checkpoint (throughC i) out) k a m =
     answered (λ o. ⊥) (checkpointImage w out) k refl (λ b e. not-answered _ k (image-checkpoint-adds-none b out) e m) (w .images i) a
+
+pub open-clears-one : OpenClearsOne
+unfolding run
+open-clears-one w (byValue i) qb out a = opened-node w i qb (w .nodes i) refl a
+open-clears-one w (throughC i) qb out a = opened-image w i qb out (w .images i) refl a

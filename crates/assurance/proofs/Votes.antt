@@ -1,13 +1,12 @@
 -- A vote stays with its host until the cycle is over or the host is started again.
 use mathlib.Core.Path.{_≡_, refl, sym, ap, _∙_, subst}
 use mathlib.Core.Logic.{_⊎_, inl, inr}
-use mathlib.Core.Bool.{Bool, true, false, cond, not, false≢true}
+use mathlib.Core.Bool.{Bool, true, false, not, false≢true}
 use mathlib.Core.List.{List, _∷_, List·Memᴰ, List·Memᴰ·head, List·Memᴰ·tail}
 use mathlib.Core.Option.{some, Option·some-injective}
 use Prim.Native.Nat.{ℕ, _<_}
 use native.Mathlib.Omega.{arith}
 use lib.Dec.{eqb}
-use borrow.Author.Tests.{eqb-true, eq-eqb}
 use Rattle.lists.proofs.Tests.{cond-cases}
 use Rattle.state.specs.declared.State.{State}
 use Rattle.records.specs.declared.AnnouncementRead.{AnnouncementRead}
@@ -39,42 +38,17 @@ use Rattle.node.proofs.Deliver.{deliver-comes-to}
 use Rattle.node.proofs.Query.{query-comes-to}
 use Rattle.node.proofs.Start.{start-comes-to}
 use Rattle.node.proofs.Numbers.{deliver-numbers, start-numbers}
-use Rattle.image.specs.Image.{imageBytes}
 use Rattle.node.specs.WellFormed.{WellFormedNode}
 use Rattle.node_c.specs.Calls.{HandedBack, started, delivered, asked}
-use Rattle.image.proofs.RoundTrips.{node-read-back}
 use Rattle.node.proofs.WellFormedNodes.{start-makes-well-formed, deliver-keeps-well-formed, query-keeps-well-formed}
-use Rattle.agreement.specs.History.{Host, byValue, throughC, Call, start, deliver, query, checkpoint, History, Cluster, empty, Outcome, imageNode}
+use Rattle.agreement.specs.History.{Host, byValue, throughC, Call, start, deliver, query, checkpoint, History, Cluster, empty, Outcome}
 use Rattle.agreement.specs.History.{nodeAt, answers, run, Moment, momentsFrom, moments, answer, after}
 use Rattle.agreement.specs.Claims.{_∈_, HoldsBytes, Park}
-use Rattle.agreement.proofs.Calls.{leave, onHost, run-deliver, run-query, Left, ran, voted-left, startBy, run-start, start-refused, start-accepted}
+use Rattle.agreement.proofs.Calls.{leave, onHost, run-deliver, run-query, Left, ran, written-left, startBy, run-start, start-refused, start-accepted}
 use Rattle.agreement.proofs.Calls.{Gave, run-checkpoint}
 use Rattle.agreement.proofs.Steps.{always}
+use Rattle.assurance.proofs.Hosts.{leave-here, leave-cases}
 use Rattle.assurance.specs.Earned.{VotedAt, Up, here, past, Between, from, later, NoStart}
-
--- ---- what a host holds after another node was left at some host
-
-leave-cases : (w : Cluster) (h g : Host) (n x : Node) → WellFormedNode n → nodeAt (leave w h n) g ≡ some x → ((g ≡ h) × (x ≡ n)) ⊎
-    (nodeAt w g ≡ some x)
-leave-cases w (byValue i) (byValue j) n x f e = at (eqb j i) refl e
-  where
-    at : (b : Bool) → eqb j i ≡ b → cond b (some n) (w .nodes j) ≡ some x → ((byValue j ≡ byValue i) × (x ≡ n)) ⊎ (w .nodes j ≡ some x)
-    at true s e = inl (ap byValue (eqb-true j i s), sym (Option·some-injective n x e))
-    at false s e = inr e
-leave-cases w (byValue i) (throughC j) n x f e = inr e
-leave-cases w (throughC i) (byValue j) n x f e = inr e
-leave-cases w (throughC i) (throughC j) n x f e = at (eqb j i) refl e
-  where
-    at : (b : Bool) → eqb j i ≡ b → imageNode (cond b (some (imageBytes n)) (w .images j)) ≡ some x → ((throughC j ≡ throughC i) × (x ≡ n)) ⊎
-        (imageNode (w .images j) ≡ some x)
-    at true s e =
-        let back : imageNode (some (imageBytes n)) ≡ some n = rw (node-read-back n f) in
-        inl (ap throughC (eqb-true j i s), sym (Option·some-injective n x (sym back ∙ e)))
-    at false s e = inr e
-
-leave-here : (w : Cluster) (h : Host) (n : Node) → WellFormedNode n → nodeAt (leave w h n) h ≡ some n
-leave-here w (byValue i) n f = rw (eq-eqb i i refl)
-leave-here w (throughC i) n f = rw (eq-eqb i i refl, node-read-back n f)
 
 -- ---- how a node becomes another
 
@@ -226,7 +200,7 @@ module _ (c : ℕ) (ab : List ℕ) where
 
   by-asking : (y : Node) (qb : List ℕ) (r : QueryReply) → Marked c ab y → Asking y qb r → Marked c ab (r .node)
   by-asking y qb r m (Node.refuses k l z e) = subst (λ (x : QueryReply). Marked c ab (x .node)) (sym e) m
-  by-asking y qb r m (Node.misses k l o z e) = subst (λ (x : QueryReply). Marked c ab (x .node)) (sym e) m
+  by-asking y qb r m (Node.misses k q l rq o z e) = subst (λ (x : QueryReply). Marked c ab (x .node)) (sym e) m
   by-asking y qb r m (Node.opens q rq o e) = subst (λ (x : QueryReply). Marked c ab (x .node)) (sym e) m
 
   becomes-marked : (y x : Node) → WellFormedNode y → Marked c ab y → Becomes y x → Marked c ab x
@@ -291,7 +265,8 @@ module _ (first : List ℕ) (calls : History) (park : Park first calls) where
       let bytes = subst HoldsBytes (v .called) (park .bytes t m) in
       let f : WellFormedNode (deliverOf n ab sb .node) = deliver-keeps-well-formed n ab sb (bytes .0)
       (always first calls park t m .0 .held h n (v .held) .well-formed) in
-      let l = voted-left w h (delivered ab sb) (v .out) n f (v .held) (ap (λ (x : Outcome). x .answer) (sym is) ∙ v .answered) in
+      let said = ap (λ (x : Outcome). x .answer) (sym is) ∙ v .answered in
+      let l = written-left w h (delivered ab sb) (v .out) n f (v .held) 128 (inr (inl refl)) said in
       let d = voted-node n ab sb (deliverOf n ab sb) (deliver-comes-to n ab sb) (l .0) in
       record {
         voted = d .0;

@@ -4,7 +4,7 @@ use mathlib.Core.Logic.{_≢_}
 use mathlib.Core.Bool.{true}
 use mathlib.Core.List.{List, map, List·Memᴰ}
 use mathlib.Core.Option.{Option}
-use Prim.Native.Nat.{ℕ, _<_}
+use Prim.Native.Nat.{ℕ, _≤_, _<_}
 use Rattle.binary.specs.Codec.{decodeRows}
 use Rattle.state.specs.declared.Day.{Day}
 use Rattle.state.specs.declared.Login.{Login}
@@ -22,7 +22,8 @@ use Rattle.records.specs.declared.Query.{Query}
 use Rattle.records.specs.declared.QueryRead.the-variants as Q
 use Rattle.records.specs.StartQuery.{readQuery}
 use Rattle.checkpoint.specs.Checkpoint.{Fits}
-use Rattle.verdicts.specs.Own.{mostMisses, heldSeat}
+use Rattle.verdicts.specs.Own.{heldSeat}
+use Rattle.verdicts.specs.Attempts.{mostMisses, missesAt}
 use Rattle.node.specs.declared.Node.{Node}
 use Rattle.node.specs.Answers.{queryNumber}
 use Rattle.node.specs.Query.{queryOf}
@@ -42,11 +43,12 @@ numberOf Open = 0
 numberOf Silent = 18
 numberOf Ended = 20
 
--- For a node that is not halted and not locked, a listed login, a right that its row holds and every day, the query answers open, 18 or 20 exactly
--- where the login's line has the word open, silent or ended.
+-- For a node that is not halted, has no count above 10 and is not locked at the door, a listed login, a right that its row holds and every day, the
+-- query answers open, 18 or 20 exactly where the login's line has the word open, silent or ended.
 abbrev pub WordAgrees : Type 0
 WordAgrees = (n : Node) (qb : List ℕ) (q : Query) → readQuery qb ≡ Q.Read q
-    → heldSeat (n .state) (n .own) .standing ≢ retired → n .own .misses < mostMisses
+    → ((door : ℕ) → missesAt door (n .counts) ≤ mostMisses)
+    → heldSeat (n .state) (n .own) .standing ≢ retired → missesAt (q .door) (n .counts) < mostMisses
     → isListed (q .login) (n .state .logins) ≡ true → holdsRight (q .right) (findLogin (q .login) (n .state .logins)) ≡ true
     → queryNumber (queryOf n qb .answer) ≡ numberOf (lineIn (n .state) (q .day) (findLogin (q .login) (n .state .logins)) .word)
 

@@ -12,6 +12,7 @@ use Rattle.actions.specs.Perform.{withStanding}
 use Rattle.node.specs.declared.Node.{Node}
 use Rattle.node.specs.declared.DeliverAnswer.the-variants.{Done, Refused}
 use Rattle.verdicts.specs.Own.{isHalted, ownAfresh}
+use Rattle.verdicts.specs.Attempts.{noMisses}
 use Rattle.node.specs.Deliver.{deliverOf}
 use Rattle.node.specs.Query.{queryOf}
 use Rattle.node.specs.Checkpoint.{checkpointOf, checkpointSlice}
@@ -25,9 +26,9 @@ abbrev pub CheckpointOfState : Type 0
 CheckpointOfState = (n k : Node) → n .state ≡ k .state
     → (out : List ℕ) → (checkpointOf n out .answer ≡ checkpointOf k out .answer) × (checkpointSlice n out ≡ checkpointSlice k out)
 
--- A query changes neither the state nor the own seat, whatever it answers.
+-- A query changes neither the state nor the own part, whatever it answers: the counts of misses stand beside them.
 abbrev pub QueryKeepsState : Type 0
-QueryKeepsState = (n : Node) (qb : List ℕ) → (queryOf n qb .node .state ≡ n .state) × (queryOf n qb .node .own .seat ≡ n .own .seat)
+QueryKeepsState = (n : Node) (qb : List ℕ) → (queryOf n qb .node .state ≡ n .state) × (queryOf n qb .node .own ≡ n .own)
 
 -- the nodes share their state, and are both halted or both running
 pub record Alike (n k : Node) : Type 0 where
@@ -51,7 +52,7 @@ abbrev pub oneRetired : State
 oneRetired = withStanding 2 retired (readCheckpoint firstCheckpoint .state)
 
 abbrev pub atSeat : ℕ → Node
-atSeat i = record { state = oneRetired; own = ownAfresh i 1 }
+atSeat i = record { state = oneRetired; own = ownAfresh i 1; counts = noMisses }
 
 pub record OwnSeatMatters : Type 0 where
   pub well-formed : isWellFormed oneRetired ≡ true

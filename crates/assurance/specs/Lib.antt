@@ -1,5 +1,6 @@
 -- What an owner can rely on, beyond demand 3.
 pub mod Refusals
+pub mod Doors
 pub mod Interference
 pub mod Progress
 pub mod Tight

@@ -23,9 +23,10 @@ use Rattle.records.specs.StartQuery.{readStart, readQuery}
 use Rattle.checkpoint.specs.Checkpoint.{checkpointBytes, decodeCheckpoint, isCheckpoint, readCheckpoint}
 use Rattle.rules.specs.Rules.{timeRefusal, noticeRefusal, quorumRefusal, presentWithout, checkRefusal, actionRefusal}
 use Rattle.actions.specs.Perform.{withStanding, withLife, effect, useProposal, act, advance, perform}
+use Rattle.verdicts.specs.Attempts.{areInRange}
 use Rattle.verdicts.specs.Verdicts.{deliverRefusal, showsQuorum, voteRefusal, loginRefusal, queryRefusal, startRefusal}
 use Rattle.node.specs.Deliver.{deliverRead, deliverOf}
-use Rattle.node.specs.Query.{queryReply, queryOf}
+use Rattle.node.specs.Query.{answered, askOf, queryOf}
 use Rattle.node.specs.Start.{blankNode, startRead, startOf}
 use Rattle.node.specs.Checkpoint.{checkpointOf}
 use Rattle.node.specs.Page.{pageOf, pageSlice}
@@ -41,6 +42,6 @@ unfolding any all count countFrom first risingFrom keep fill replaceFirst lowest
     checkpointBytes decodeCheckpoint isCheckpoint readCheckpoint
     timeRefusal noticeRefusal quorumRefusal presentWithout checkRefusal actionRefusal
     withStanding withLife effect useProposal act advance perform isSameBytes
-    deliverRefusal showsQuorum voteRefusal loginRefusal queryRefusal startRefusal
-    deliverRead deliverOf queryReply queryOf blankNode startRead startOf checkpointOf pageOf pageSlice
+    areInRange deliverRefusal showsQuorum voteRefusal loginRefusal queryRefusal startRefusal
+    deliverRead deliverOf answered askOf queryOf blankNode startRead startOf checkpointOf pageOf pageSlice
 calls-by-value = tt

@@ -3,5 +3,6 @@ pub mod Compute
 pub mod Examples
 pub mod TableOfNo
 pub mod Lapse
+pub mod Doors
 pub mod AccessPage
 pub mod Roster

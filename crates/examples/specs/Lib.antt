@@ -3,5 +3,6 @@ pub mod Records
 pub mod Examples
 pub mod TableOfNo
 pub mod Lapse
+pub mod Doors
 pub mod AccessPage
 pub mod Roster

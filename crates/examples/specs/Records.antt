@@ -6,7 +6,7 @@ use Rattle.binary.specs.Number.{toBytes}
 use Rattle.state.specs.Time.{day, cycle}
 use Rattle.records.specs.declared.Action.{Action}
 use Rattle.records.specs.declared.Action.the-variants.{Grant}
-use Rattle.records.specs.Layout.{kindQuery, queryLength}
+use Rattle.records.specs.Layout.{kindQuery, queryLength, kindDoorQuery, doorQueryLength}
 use Rattle.records.specs.Announcement.{announcementBytes}
 use Rattle.records.specs.Sheet.{Row, sheetOf}
 
@@ -68,6 +68,14 @@ unvoted = sheetOf 1 1 []
 abbrev pub twoVotes : List ℕ
 twoVotes = sheetOf 1 1 (vote 0 ∷ vote 1 ∷ [])
 
--- a query for this login, on this day, of this right
+-- what a query asks: for this login, on this day, of this right
+abbrev pub asked : ℕ → ℕ → ℕ → List ℕ
+asked login d right = toBytes 4 login ++ (toBytes 4 d ++ (right ∷ []))
+
+-- a query of kind 20
 abbrev pub query : ℕ → ℕ → ℕ → List ℕ
-query login d right = toBytes 2 queryLength ++ (toBytes 2 kindQuery ++ (toBytes 4 login ++ (toBytes 4 d ++ (right ∷ []))))
+query login d right = toBytes 2 queryLength ++ (toBytes 2 kindQuery ++ asked login d right)
+
+-- a query of kind 21, at this door
+abbrev pub queryAt : ℕ → ℕ → ℕ → ℕ → List ℕ
+queryAt door login d right = toBytes 2 doorQueryLength ++ (toBytes 2 kindDoorQuery ++ (asked login d right ++ (door ∷ [])))

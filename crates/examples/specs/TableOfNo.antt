@@ -131,7 +131,7 @@ pub record TableOfNo : Type 0 where
   pub may-not-vote : deliverOf (started (certifiedSeat 0)) (announce 1 101 grant501) unvoted .answer ≡ Deliver.Refused 15
   -- 16 "no quorum, and voted for other bytes this cycle": "second announcement"
   pub voted-otherwise : deliverOf voted (announce 1 102 grant501) unvoted .answer ≡ Deliver.Refused 16
-  -- 17 "misses are 10": "11th bad query"
+  -- 17 "misses are 10": "11th bad query", at door 0, whose count is 10
   pub locked : queryOf (afterBad 10) (query 0 101 0) .answer ≡ Query.Refused 17
   -- 18 "t minus agreed day above S": "31 over 30"
   pub silent : queryOf granted (query 501 132 0) .answer ≡ Query.Refused 18

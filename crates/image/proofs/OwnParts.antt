@@ -1,5 +1,5 @@
 -- An image read: the fields of its own part at their offsets, and what the tests come to; written: the number of rows of a table.
-use Prim.Native.Nat.{ℕ, zero, suc, _≤_}
+use Prim.Native.Nat.{ℕ, zero, suc, _+_, _≤_}
 use native.Mathlib.Omega.{arith}
 use mathlib.Core.Path.{_≡_, refl, ap, _∙_}
 use mathlib.Core.Bool.{Bool, true, not, _&&_}
@@ -16,9 +16,9 @@ use Rattle.records.specs.Layout.{announcementSize}
 use Rattle.checkpoint.specs.Layout.{checkpointSize}
 use Rattle.checkpoint.specs.Checkpoint.{decodeCheckpoint, isCheckpoint}
 use Rattle.verdicts.specs.declared.Own.{Own}
-use Rattle.verdicts.specs.Own.{mostMisses}
-use Rattle.node.specs.WellFormed.{ownFields, ownOf, isWellFormedVote, isWellFormedOwn}
-use Rattle.image.specs.Layout.{imageSize, ownAt, lifeAt, flagAt, voteAt, missesAt}
+use Rattle.verdicts.specs.Attempts.{areInRange}
+use Rattle.node.specs.WellFormed.{ownFields, ownOf, countsOf, isWellFormedVote, isWellFormedOwn}
+use Rattle.image.specs.Layout.{imageSize, ownAt, lifeAt, flagAt, voteAt, countsAt}
 use Rattle.image.specs.Image.{decodeImage, isImage}
 
 -- the own part in an image's bytes
@@ -32,11 +32,16 @@ ownFrom b = record {
   life = field 4 lifeAt b;
   voted = eqb (byteAt flagAt b) 1;
   vote = decodeRows byte announcementSize (drop voteAt b);
-  misses = byteAt missesAt b;
 }
 
 pub own-at : (b : List ℕ) → ownIn b ≡ ownFrom b
 own-at b = simp (getD-drop, drop-drop)
+
+-- the counts in an image's bytes, one by one
+pub counts-at : (b : List ℕ) → countsOf (ownFields .decode (drop ownAt b))
+    ≡ record { misses = byteAt countsAt b ∷ byteAt (countsAt + 1) b ∷ byteAt (countsAt + 2) b ∷ byteAt (countsAt + 3) b ∷ [] }
+unfolding decodeRows
+counts-at b = simp getD-drop
 
 flag-at : (b : List ℕ) → ownFields .decode (drop ownAt b) .flag ≡ byteAt flagAt b
 flag-at b = simp (getD-drop, drop-drop)
@@ -60,14 +65,15 @@ pub own-tested : (b : List ℕ) (standing : ℕ) (voted : Bool) → length b ≡
     → voted ≡ isWellFormedVote (decodeCheckpoint (take checkpointSize b) .state .cycle) (eqb (byteAt flagAt b) 1)
     (take announcementSize (drop voteAt b))
     → isWellFormedOwn (decodeImage b .state) (decodeImage b .own)
-    ≡ (ltb (byteAt ownAt b) seatCount && (not (eqb standing 0) && (leb 1 (field 4 lifeAt b) && (voted && leb (byteAt missesAt b) mostMisses))))
+    ≡ (ltb (byteAt ownAt b) seatCount && (not (eqb standing 0) && (leb 1 (field 4 lifeAt b) && voted)))
 unfolding decodeImage isWellFormedOwn
 own-tested b standing voted l e f =
     let v = bytes-are announcementSize (drop voteAt b) (rw length-drop (omega arith)) in
     ap (isWellFormedOwn (decodeCheckpoint (take checkpointSize b) .state)) (own-at b) ∙ rw (v, ← e, ← f)
 
--- What the tests of an image come to, where its state is accepted and its own part is tested.
-pub image-tested : (b : List ℕ) (own : Bool) → length b ≡ imageSize → isCheckpoint (take checkpointSize b) ≡ true
-    → own ≡ isWellFormedOwn (decodeImage b .state) (decodeImage b .own) → isImage b ≡ (leb (byteAt flagAt b) 1 && own)
+-- What the tests of an image come to, where its state is accepted, and its own part and its counts are tested.
+pub image-tested : (b : List ℕ) (own counts : Bool) → length b ≡ imageSize → isCheckpoint (take checkpointSize b) ≡ true
+    → own ≡ isWellFormedOwn (decodeImage b .state) (decodeImage b .own) → counts ≡ areInRange (decodeImage b .counts)
+    → isImage b ≡ (leb (byteAt flagAt b) 1 && (own && counts))
 unfolding isImage
-image-tested b own l e f = rw (eq-eqb _ _ l, e, flag-at b, ← f)
+image-tested b own counts l e f g = rw (eq-eqb _ _ l, e, flag-at b, ← f, ← g)

@@ -12,13 +12,14 @@ use Rattle.binary.specs.Number.{Bytes}
 use Rattle.binary.proofs.Number.{bytes-take, bytes-drop}
 use Rattle.binary.proofs.Codec.{Laws, byte-laws, number-laws, onto-laws, rows-laws, read-back, written-back, _⊗-laws_}
 use Rattle.state.specs.WellFormed.{isWellFormed}
-use Rattle.records.specs.Layout.{announcementSize}
+use Rattle.records.specs.Layout.{announcementSize, doorCount}
 use Rattle.checkpoint.specs.Layout.{checkpointSize}
 use Rattle.checkpoint.specs.Checkpoint.{checkpointBytes, decodeCheckpoint}
 use Rattle.checkpoint.specs.Claims.{ReadState}
 use Rattle.checkpoint.proofs.RoundTrips.{checkpoint-length, checkpoint-decoded, checkpoint-accepted, decoded-state}
+use Rattle.verdicts.specs.Attempts.{areInRange}
 use Rattle.node.specs.declared.Node.{Node}
-use Rattle.node.specs.WellFormed.{ownFields, fieldsOf, ownOf, Fits, isWellFormedOwn}
+use Rattle.node.specs.WellFormed.{ownFields, fieldsOf, ownOf, countsOf, Fits, isWellFormedOwn}
 use Rattle.image.specs.Layout.{imageSize, ownAt}
 use Rattle.image.specs.Image.{imageBytes, decodeImage, isImage, readImage}
 use Rattle.image.specs.Claims.{ReadNode, NodeReadBack, ImageWrittenBack, ImageLaidOut}
@@ -26,7 +27,7 @@ use Rattle.image.specs.Claims.{ReadNode, NodeReadBack, ImageWrittenBack,
 own-laws : Laws ownFields
 own-laws =
     onto-laws _ _ (λ _. refl) (λ _. refl)
-    ((byte-laws ⊗-laws number-laws 4) ⊗-laws (byte-laws ⊗-laws rows-laws byte-laws announcementSize) ⊗-laws byte-laws)
+    ((byte-laws ⊗-laws number-laws 4) ⊗-laws (byte-laws ⊗-laws rows-laws byte-laws announcementSize) ⊗-laws rows-laws byte-laws doorCount)
 
 -- The voted flag's byte is 0 or 1, and tells the flag.
 flag-small : (voted : Bool) → leb (cond voted 1 0) 1 ≡ true
@@ -49,36 +50,38 @@ module _ (n : Node) (h : Fits n) where
 
   pub image-length : length (imageBytes n) ≡ imageSize
   unfolding imageBytes
-  image-length = rw (length-append, state-length, own-laws .reads .long (fieldsOf (n .own)) (h .1))
+  image-length = rw (length-append, state-length, own-laws .reads .long (fieldsOf (n .own) (n .counts)) (h .1))
 
   state-part : take checkpointSize (imageBytes n) ≡ checkpointBytes (n .state)
   unfolding imageBytes
   state-part = take-at _ _ checkpointSize state-length
 
-  own-part : drop ownAt (imageBytes n) ≡ ownFields .encode (fieldsOf (n .own))
+  own-part : drop ownAt (imageBytes n) ≡ ownFields .encode (fieldsOf (n .own) (n .counts))
   unfolding imageBytes
   own-part = drop-at (checkpointBytes (n .state)) _ ownAt state-length
 
-  own-decoded : ownFields .decode (drop ownAt (imageBytes n)) ≡ fieldsOf (n .own)
-  own-decoded = rw own-part (read-back (own-laws .reads) (fieldsOf (n .own)) (h .1))
+  own-decoded : ownFields .decode (drop ownAt (imageBytes n)) ≡ fieldsOf (n .own) (n .counts)
+  own-decoded = rw own-part (read-back (own-laws .reads) (fieldsOf (n .own) (n .counts)) (h .1))
 
   image-decoded : decodeImage (imageBytes n) ≡ n
   unfolding decodeImage
   image-decoded =
       let s = ap decodeCheckpoint state-part ∙ checkpoint-decoded (n .state) (h .0) in
       let o : ownOf (ownFields .decode (drop ownAt (imageBytes n))) ≡ n .own = ap ownOf own-decoded ∙ rw flag-back in
-      λ i. record { state = s i .state; own = o i }
+      let c = ap countsOf own-decoded in
+      λ i. record { state = s i .state; own = o i; counts = c i }
 
-  image-accepted : isWellFormed (n .state) ≡ true → isWellFormedOwn (n .state) (n .own) ≡ true → isImage (imageBytes n) ≡ true
+  image-accepted : isWellFormed (n .state) ≡ true → isWellFormedOwn (n .state) (n .own) ≡ true → areInRange (n .counts) ≡ true
+      → isImage (imageBytes n) ≡ true
   unfolding isImage
-  image-accepted s o =
+  image-accepted s o c =
       let v : leb (ownFields .decode (drop ownAt (imageBytes n)) .flag) 1 ≡ true =
       rw (ap {B = ℕ} (λ p. p .flag) own-decoded) (flag-small (n .own .voted)) in
-      simp (and-eq-true-iff, image-decoded, state-part) (eq-eqb _ _ image-length, (checkpoint-accepted (n .state) (h .0) s, (v, o)))
+      simp (and-eq-true-iff, image-decoded, state-part) (eq-eqb _ _ image-length, (checkpoint-accepted (n .state) (h .0) s, (v, (o, c))))
 
 pub node-read-back : NodeReadBack
 unfolding readImage
-node-read-back n w = rw (image-accepted n (w .fits) (w .state) (w .own), image-decoded n (w .fits))
+node-read-back n w = rw (image-accepted n (w .fits) (w .state) (w .own) (w .counts), image-decoded n (w .fits))
 
 -- Bytes that are accepted are as many as an image has.
 pub image-size : (b : List ℕ) → isImage b ≡ true → length b ≡ imageSize
@@ -98,15 +101,16 @@ decoded-node b h e =
     let s = image-state b h e in
     let d = drop ownAt b in
     let g = bytes-drop ownAt b h in
-    let n : length d ≡ 31 = rw length-drop (omega (arith, image-size b e)) in
+    let n : length d ≡ ownFields .width = rw length-drop (omega (arith, image-size b e)) in
     let p = ownFields .decode d in
     let v = flag-forth (p .flag) (leb-true _ _ (t .1 .1 .0)) in
-    let f : fieldsOf (ownOf p) ≡ p = λ i. record { seat = p .seat; life = p .life; flag = v i; vote = p .vote; misses = p .misses } in
+    let f : fieldsOf (ownOf p) (countsOf p) ≡ p = λ i. record { seat = p .seat; life = p .life; flag = v i; vote = p .vote; misses = p .misses } in
     record {
       well-formed = record {
         fits = (s .fits, subst (ownFields .Fits) (sym f) (own-laws .fits d (omega arith) g));
         state = s .well-formed;
-        own = t .1 .1 .1;
+        own = t .1 .1 .1 .0;
+        counts = t .1 .1 .1 .1;
       };
       written-back = ap₂ _++_ (s .written-back) (ap (ownFields .encode) f ∙ written-back own-laws d n g) ∙ take-append-drop ownAt b;
     }

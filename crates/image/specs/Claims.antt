@@ -4,9 +4,10 @@ use mathlib.Core.Bool.{true}
 use mathlib.Core.List.{List}
 use Prim.Native.Nat.{ℕ, _+_}
 use Rattle.binary.specs.Number.{Bytes}
+use Rattle.records.specs.Layout.{doorCount}
 use Rattle.node.specs.declared.Node.{Node}
 use Rattle.node.specs.WellFormed.{ownFields, WellFormedNode}
-use Rattle.image.specs.Layout.{imageSize, ownAt, missesAt}
+use Rattle.image.specs.Layout.{imageSize, ownAt, countsAt}
 use Rattle.image.specs.Image.{imageBytes, isImage, readImage}
 
 -- What is written is accepted, and reading it gives the node back, for every well-formed node.
@@ -23,4 +24,4 @@ ImageWrittenBack = (b : List ℕ) → Bytes b → isImage b ≡ true → ReadNod
 
 -- The named size and places are those of the format.
 abbrev pub ImageLaidOut : Type 0
-ImageLaidOut = (ownAt + ownFields .width ≡ imageSize) × (missesAt + 1 ≡ imageSize)
+ImageLaidOut = (ownAt + ownFields .width ≡ imageSize) × (countsAt + doorCount ≡ imageSize)

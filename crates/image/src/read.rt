@@ -4,13 +4,13 @@ ghost use Prim.Native.Nat.{_+_, _≤_};
 ghost use lib.ListN.{length, drop};
 ghost use Rattle.binary.specs.Codec.{byte, decodeRows};
 ghost use Rattle.records.specs.Layout.{announcementSize};
-ghost use Rattle.node.specs.WellFormed.{ownFields, ownOf, isWellFormedVote, isWellFormedOwn};
+ghost use Rattle.node.specs.WellFormed.{ownFields, ownOf, countsOf, isWellFormedVote, isWellFormedOwn};
 ghost use Rattle.image.specs.Layout.{imageSize, ownAt};
 ghost use Rattle.image.specs.Image.{decodeImage, isImage};
+use crate::layout::COUNTS_AT;
 use crate::layout::FLAG_AT;
 use crate::layout::IMAGE_SIZE;
 use crate::layout::LIFE_AT;
-use crate::layout::MISSES_AT;
 use crate::layout::OWN_AT;
 use crate::layout::VOTE_AT;
 use binary::is_zero_from;
@@ -27,8 +27,9 @@ use records::read_announcement;
 use state::Cycle;
 use state::limits::SEAT_NUMBERS;
 use state::seats::FREE;
-use verdicts::MOST_MISSES;
+use verdicts::AttemptCounts;
 use verdicts::Own;
+use verdicts::are_in_range;
 
 fn vote_at(b: &[u8], at: usize) -> [u8; ANNOUNCEMENT_SIZE]
     requires { ⌜ at + announcementSize ≤ length (now b) ⌝ }
@@ -54,8 +55,21 @@ fn own_in(b: &[u8]) -> Own
         life: u32_at(b, LIFE_AT),
         voted: b[FLAG_AT] == 1,
         vote: vote,
-        misses: b[MISSES_AT],
     }
+}
+
+// The counts in an image's bytes, whatever they are.
+fn counts_in(b: &[u8]) -> AttemptCounts
+    requires { ⌜ imageSize ≤ length (now b) ⌝ }
+    ensures { λ r. ⌜ r ≡ countsOf (ownFields .decode (drop ownAt (now (b .entry)))) ⌝ }
+{
+    let misses = [
+        b[COUNTS_AT],
+        b[COUNTS_AT + 1],
+        b[COUNTS_AT + 2],
+        b[COUNTS_AT + 3],
+    ];
+    AttemptCounts { misses }
 }
 
 // Zero if there is none, else a well-formed announcement of this cycle.
@@ -79,10 +93,9 @@ fn is_well_formed_own(b: &[u8]) -> bool
 {
     let standing = standing_in(&b[0..CHECKPOINT_SIZE], b[OWN_AT]);
     let cycle = cycle_in(&b[0..CHECKPOINT_SIZE]);
-    let voted = is_well_formed_vote(cycle, b[FLAG_AT] == 1, &b[VOTE_AT..MISSES_AT]);
+    let voted = is_well_formed_vote(cycle, b[FLAG_AT] == 1, &b[VOTE_AT..COUNTS_AT]);
     let life = u32_at(b, LIFE_AT);
-    (b[OWN_AT] < SEAT_NUMBERS)
-        & ((standing != FREE) & ((1 <= life) & (voted & (b[MISSES_AT] <= MOST_MISSES))))
+    (b[OWN_AT] < SEAT_NUMBERS) & ((standing != FREE) & ((1 <= life) & voted))
 }
 
 // The bytes are exactly one well-formed image. They are tested where they lie, so that a node is decoded once, and never for a refusal.
@@ -94,7 +107,8 @@ pub fn is_image(b: &[u8]) -> bool
     }
     if is_checkpoint(&b[0..CHECKPOINT_SIZE]) {
         let own = is_well_formed_own(b);
-        return (b[FLAG_AT] <= 1) & own;
+        let counts = counts_in(b);
+        return (b[FLAG_AT] <= 1) & (own & are_in_range(counts));
     }
     false
 }
@@ -106,5 +120,6 @@ pub fn node_in(b: &[u8]) -> Node
 {
     let state = state_in(&b[0..CHECKPOINT_SIZE]);
     let own = own_in(b);
-    Node { state, own }
+    let counts = counts_in(b);
+    Node { state, own, counts }
 }

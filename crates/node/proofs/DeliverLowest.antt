@@ -37,7 +37,7 @@ use Rattle.node.specs.Deliver.{deliverRead, deliverOf}
 use Rattle.node.specs.Applies.{deliver, at, numberGiven, Tries, of-announcement}
 use Rattle.node.specs.Applies.{presents, back, certify, remove, rejoin, propose, grant, proposal, login, NoQuorum, Applies}
 use Rattle.node.specs.Applies.{no-1, no-2, no-3, no-4, no-5, no-6, no-7, no-8, no-9}
-use Rattle.node.specs.Applies.{no-10, no-11, no-12, no-13, no-14, no-15, no-16, no-17}
+use Rattle.node.specs.Applies.{no-10, no-11, no-12, no-13, no-14, no-15, no-16}
 use Rattle.node.proofs.DeliverApplies.{seen, unsigned, unnoticed}
 use Rattle.refusals.proofs.UpTo.{UpTo, by-itself, in-first, in-rest, in-left, in-right, reaches}
 use Rattle.node.proofs.Deliver.{may-vote, ruled, within-rules}
@@ -242,4 +242,3 @@ deliver-up-to {n} {ab} {sb} t (no-15 ra q m) =
 deliver-up-to {n} {ab} {sb} t (no-16 ra q v o) =
     let e = voted-other n ab v o in
     by-votes n ab sb ra q (omega arith) (search reaches depth 12)
-deliver-up-to t (no-17 h) = absurd (omega arith)

@@ -21,7 +21,7 @@ use Rattle.node.specs.Page.{pageFits, pageOf}
 use Rattle.node.specs.Claims as Comes
 use Rattle.node.specs.Claims.{Starting, Delivery, Asking}
 use Rattle.node.specs.Applies.{deliver, query, checkpoint, page, Asked, start, at, numberGiven, Tries}
-use Rattle.node.specs.Applies.{Applies, no-3, no-6, no-17, no-22, no-23, GivesLowest, LowestIsGiven, NoneApplies}
+use Rattle.node.specs.Applies.{Applies, no-3, no-6, no-22, no-23, GivesLowest, LowestIsGiven, NoneApplies}
 use Rattle.refusals.proofs.UpTo.{UpTo}
 use Rattle.node.proofs.Start.{start-comes-to}
 use Rattle.node.proofs.Deliver.{deliver-comes-to}
@@ -49,7 +49,7 @@ delivering (Comes.performs a acc enough e) q z v = absurd (z (sym q ∙ ap (λ (
 
 asking : {n : Node} {qb : List ℕ} {r : QueryReply} {k : ℕ} → Asking n qb r → queryNumber (r .answer) ≡ k → k ≢ 0 → Holds (at n (query qb)) k
 asking (Comes.refuses i l y e) q z = rw (sym (ap (λ (r : QueryReply). queryNumber (r .answer)) e) ∙ q) at (query-applies y)
-asking (Comes.misses i l m y e) q z = rw (sym (ap (λ (r : QueryReply). queryNumber (r .answer)) e) ∙ q) at (query-applies y)
+asking (Comes.misses i x l rx m y e) q z = rw (sym (ap (λ (r : QueryReply). queryNumber (r .answer)) e) ∙ q) at (query-applies y)
 asking (Comes.opens x rx o e) q z = absurd (z (sym q ∙ ap (λ (r : QueryReply). queryNumber (r .answer)) e))
 
 giving : (n : Node) (out : List ℕ) {k : ℕ} → checkpointNumber (checkpointOf n out .answer) ≡ k → k ≢ 0 → Holds (at n (checkpoint out)) k
@@ -87,7 +87,6 @@ checkpoint-up-to : {n : Node} {out : List ℕ} {j : ℕ} → Tries (at n (checkp
 unfolding checkpointOf
 checkpoint-up-to t (no-3 h) = untried t (omega arith) (omega arith)
 checkpoint-up-to t (no-6 h) = untried t (omega arith) (omega arith)
-checkpoint-up-to t (no-17 h) = untried t (omega arith) (omega arith)
 checkpoint-up-to t (no-22 h) = rw (lt-leb _ _ h) (omega arith)
 
 page-up-to : {n : Node} {given : Day} {out : List ℕ} {j : ℕ} → Tries (at n (page given out)) j → Applies (at n (page given out)) j
@@ -95,7 +94,6 @@ page-up-to : {n : Node} {given : Day} {out : List ℕ} {j : ℕ} → Tries (at n
 unfolding pageOf
 page-up-to t (no-3 h) = untried t (omega arith) (omega arith)
 page-up-to t (no-6 h) = untried t (omega arith) (omega arith)
-page-up-to t (no-17 h) = untried t (omega arith) (omega arith)
 page-up-to t (no-23 h) = rw (lt-leb _ _ h) (omega arith)
 
 up-to : (x : Asked) (j : ℕ) → Tries x j → Applies x j → UpTo j (numberGiven x)

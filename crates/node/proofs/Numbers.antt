@@ -4,7 +4,7 @@ use Prim.Native.Nat.{ℕ, _≤_}
 use native.Mathlib.Omega.{arith}
 use Rattle.node.specs.declared.Node.{Node}
 use Rattle.node.specs.Claims.{DeliverRefused, announcement-malformed, sheet-malformed, rule, may-not-vote, voted-otherwise}
-use Rattle.node.specs.Claims.{QueryRefused, malformed, halted, locked, silent, unlisted, ended, right-not-held}
+use Rattle.node.specs.Claims.{QueryRefused, malformed, count-above, halted, locked, silent, unlisted, ended, right-not-held}
 use Rattle.node.specs.Claims.{StartRefused, start-malformed, checkpoint-malformed, seat-unfit, life-below}
 
 pub deliver-numbers : {n : Node} {ab sb : List ℕ} {k : ℕ} → DeliverRefused n ab sb k → (1 ≤ k) × (k ≤ 16)
@@ -16,6 +16,7 @@ deliver-numbers (voted-otherwise a e acc few v o) = omega arith
 
 pub query-numbers : {n : Node} {qb : List ℕ} {k : ℕ} → QueryRefused n qb k → (1 ≤ k) × (k ≤ 21)
 query-numbers (malformed e r) = omega arith
+query-numbers (count-above door e r) = omega arith
 query-numbers (halted q e rq r) = omega arith
 query-numbers (locked q e rq r) = omega arith
 query-numbers (silent q e rq r) = omega arith

@@ -1,5 +1,5 @@
 -- What a query comes to.
-use mathlib.Core.Path.{_≡_, refl, ap}
+use mathlib.Core.Path.{_≡_, refl}
 use mathlib.Core.Bool.{Bool, true, false, not, _&&_, and-eq-true-iff, true≢false}
 use mathlib.Core.List.{List}
 use Prim.Native.Nat.{ℕ, _≤_, _<_}
@@ -19,11 +19,14 @@ use Rattle.records.specs.StartQuery.{readQuery}
 use Rattle.refusals.proofs.Chains.{unrefused, passes-rule, by-rule, refused, not-zero}
 use Rattle.node.specs.declared.Node.{Node}
 use Rattle.node.proofs.Numbers.{query-numbers}
+use Rattle.node.specs.declared.CountedAnswer.{CountedAnswer}
 use Rattle.node.specs.declared.QueryReply.{QueryReply}
-use Rattle.verdicts.specs.Own.{mostMisses, isHalted}
+use Rattle.verdicts.specs.Own.{isHalted}
+use Rattle.verdicts.specs.Attempts.{mostMisses, missesAt, areInRange}
+use Rattle.verdicts.proofs.Misses.{none-above, some-above}
 use Rattle.verdicts.specs.Verdicts.{loginRefusal, queryRefusal}
-use Rattle.node.specs.Query.{addsMiss, queryReply, queryRecord, queryOf}
-use Rattle.node.specs.Claims.{QueryRefused, malformed, halted, locked, silent, unlisted, ended, right-not-held}
+use Rattle.node.specs.Query.{addsMiss, answered, askRecord, askOf, withCounts, queryOf}
+use Rattle.node.specs.Claims.{QueryRefused, malformed, count-above, halted, locked, silent, unlisted, ended, right-not-held}
 use Rattle.node.specs.Claims.{Opens, Asking, refuses, misses, opens, QueryComesTo}
 
 -- a number that adds a miss is at least 19
@@ -38,15 +41,16 @@ module _ (n : Node) (qb : List ℕ) (q : Query) (rq : readQuery qb ≡ Read q) w
   row = findLogin (q .login) (n .state .logins)
 
   -- none of the rules 3 and 17 to 21 applies
-  opened : queryRefusal (n .state) (n .own) q ≡ 0 → Opens n q
+  opened : areInRange (n .counts) ≡ true → queryRefusal (n .state) (n .own) (n .counts) q ≡ 0 → Opens n q
   unfolding queryRefusal loginRefusal isListed t row
-  opened z =
+  opened r z =
       let p3 = passes-rule (isHalted (n .state) (n .own)) 3 _ refl z in
-      let p17 = passes-rule (leb mostMisses (n .own .misses)) 17 _ refl (p3 .1) in
+      let p17 = passes-rule (leb mostMisses (missesAt (q .door) (n .counts))) 17 _ refl (p3 .1) in
       let p18 = passes-rule (isSilent (n .state .day) (n .state .minima .silence) t) 18 _ refl (p17 .1) in
       let p19 = passes-rule (not (isLogin row)) 19 _ refl (p18 .1) in
       let p20 = passes-rule (isEnded t row) 20 _ refl (p19 .1) in
       record {
+        none-above = none-above (n .counts) r;
         running = eqb-false _ _ (p3 .0);
         unlocked = leb-false _ _ (p17 .0);
         within-silence = ltb-false _ _ (p18 .0);
@@ -57,14 +61,14 @@ module _ (n : Node) (qb : List ℕ) (q : Query) (rq : readQuery qb ≡ Read q) w
 
   -- why a number k is given, and that a miss is added only to fewer than 10
   unfoldable pub Why : ℕ → Type 0
-  Why k = QueryRefused n qb k × (addsMiss k ≡ true → n .own .misses < mostMisses)
+  Why k = QueryRefused n qb k × (addsMiss k ≡ true → missesAt (q .door) (n .counts) < mostMisses)
 
-  pub why : (k : ℕ) → 1 ≤ k → queryRefusal (n .state) (n .own) q ≡ k → Why k
+  pub why : (k : ℕ) → 1 ≤ k → queryRefusal (n .state) (n .own) (n .counts) q ≡ k → Why k
   unfolding queryRefusal loginRefusal isListed t row Why
   why k h =
       by-rule (isHalted (n .state) (n .own)) 3 _ k refl
       (λ e a. (halted q e rq (eqb-true _ _ a), λ l. absurd (let h = adds-from k l in omega arith)))
-      (λ _. by-rule (leb mostMisses (n .own .misses)) 17 _ k refl
+      (λ _. by-rule (leb mostMisses (missesAt (q .door) (n .counts))) 17 _ k refl
       (λ e a. (locked q e rq (leb-true _ _ a), λ l. absurd (let h = adds-from k l in omega arith)))
       (λ m. by-rule (isSilent (n .state .day) (n .state .minima .silence) t) 18 _ k refl
       (λ e a. (silent q e rq (ltb-true _ _ a), λ l. absurd (let h = adds-from k l in omega arith)))
@@ -74,7 +78,6 @@ module _ (n : Node) (qb : List ℕ) (q : Query) (rq : readQuery qb ≡ Read q) w
       let r = refused (not (holdsRight (q .right) row)) 21 k h e in
       (right-not-held q (r .0) rq (not-false _ l) (not-true _ (r .1)), λ _. leb-false _ _ m))))))
 
--- the reply to a refusal number k that is not 0
 -- a number of a query that adds no miss is at most 18
 no-miss : (k : ℕ) → k ≤ 21 → addsMiss k ≡ false → k ≤ 18
 no-miss k h e = at (leb 19 k) refl (rw (le-leb k 21 h) at e)
@@ -83,34 +86,39 @@ no-miss k h e = at (leb 19 k) refl (rw (le-leb k 21 h) at e)
     at true f g = absurd (true≢false g)
     at false f g = let l = leb-false 19 k f in omega arith
 
-by-number : (n : Node) (qb : List ℕ) (k : ℕ) → eqb k 0 ≡ false → QueryRefused n qb k → (addsMiss k ≡ true → n .own .misses < mostMisses) → Asking n qb
-    (queryReply n k)
-unfolding queryReply
-by-number n qb k z r f =
+-- the node's reply, from an answer with the counts after it
+abbrev reply : Node → CountedAnswer → QueryReply
+reply n r = record { node = withCounts (r .counts) n; answer = r .answer }
+
+-- the reply to a refusal number k that is not 0
+by-number : (n : Node) (qb : List ℕ) (q : Query) (k : ℕ) → readQuery qb ≡ Read q → eqb k 0 ≡ false → QueryRefused n qb k
+    → (addsMiss k ≡ true → missesAt (q .door) (n .counts) < mostMisses) → Asking n qb (reply n (answered (n .counts) (q .door) k))
+unfolding answered
+by-number n qb q k rq z r f =
     rw z
-    (cond-cases (Asking n qb) (addsMiss k)
-    (λ h. let t = simp and-eq-true-iff at h in misses k (leb-true 19 k (t .0)) (f h) r refl)
+    (cond-cases (λ (x : CountedAnswer). Asking n qb (reply n x)) (addsMiss k)
+    (λ h. let t = simp and-eq-true-iff at h in misses k q (leb-true 19 k (t .0)) rq (f h) r refl)
     (λ h. refuses k (no-miss k (query-numbers r .1) h) r refl))
 
-by-record : (n : Node) (qb : List ℕ) (o : QueryRead) → readQuery qb ≡ o → Asking n qb (queryRecord n o)
-unfolding queryReply Why
+by-record : (n : Node) (qb : List ℕ) (o : QueryRead) → readQuery qb ≡ o → Asking n qb (reply n (askRecord (n .state) (n .own) (n .counts) o))
+unfolding answered Why
 by-record n qb Malformed e = refuses 1 (omega arith) (malformed refl e) refl
-by-record n qb (Read q) e = at (eqb (queryRefusal (n .state) (n .own) q) 0) refl
+by-record n qb (Read q) e =
+    cond-cases (λ (x : CountedAnswer). Asking n qb (reply n x)) (areInRange (n .counts)) (λ r. at r (eqb k 0) refl)
+    (λ r. let above = some-above (n .counts) r in refuses 1 (omega arith) (count-above (above .0) refl (above .1)) refl)
   where
-    at : (b : Bool) → eqb (queryRefusal (n .state) (n .own) q) 0 ≡ b → Asking n qb (queryReply n (queryRefusal (n .state) (n .own) q))
-    at true z = opens q e (opened n qb q e (eqb-true _ _ z)) (rw z)
-    at false z = let w = why n qb q e (queryRefusal (n .state) (n .own) q) (not-zero _ z) refl in by-number n qb
-        (queryRefusal (n .state) (n .own) q) z (w .0) (w .1)
+    k : ℕ
+    k = queryRefusal (n .state) (n .own) (n .counts) q
+
+    at : areInRange (n .counts) ≡ true → (b : Bool) → eqb k 0 ≡ b → Asking n qb (reply n (answered (n .counts) (q .door) k))
+    at r true z = opens q e (opened n qb q e r (eqb-true _ _ z)) (rw z)
+    at r false z = let w = why n qb q e k (not-zero _ z) refl in by-number n qb q k e z (w .0) (w .1)
 
 pub query-comes-to : QueryComesTo
-unfolding queryOf
+unfolding queryOf askOf
 query-comes-to n qb = by-record n qb (readQuery qb) refl
 
 -- a query leaves the state as it was
-asking-state : (n : Node) (qb : List ℕ) (r : QueryReply) → Asking n qb r → r .node .state ≡ n .state
-asking-state n qb r (refuses k l y e) = ap (λ (x : QueryReply). x .node .state) e
-asking-state n qb r (misses k l m y e) = ap (λ (x : QueryReply). x .node .state) e
-asking-state n qb r (opens q rq o e) = ap (λ (x : QueryReply). x .node .state) e
-
 pub query-keeps-state : (n : Node) (qb : List ℕ) → queryOf n qb .node .state ≡ n .state
-query-keeps-state n qb = asking-state n qb (queryOf n qb) (query-comes-to n qb)
+unfolding queryOf
+query-keeps-state n qb = refl

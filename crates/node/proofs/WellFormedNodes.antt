@@ -5,7 +5,7 @@ use mathlib.Core.Bool.{true, and-eq-true-iff}
 use mathlib.Core.List.{List, [], _∷_}
 use Prim.Native.Nat.{ℕ, zero, suc, _+_, _^_, _≤_, _<_}
 use native.Mathlib.Omega.{arith}
-use lib.ListN.{length, replicate}
+use lib.ListN.{length, set, replicate}
 use borrow.Author.Tests.{eqb-false, eq-eqb, ne-eqb, leb-true, le-leb, ltb-true, lt-ltb, not-true}
 use Rattle.lists.specs.Fold.{all}
 use Rattle.lists.proofs.Tests.{clash}
@@ -18,7 +18,7 @@ use Rattle.state.specs.Seats.{free, seatAt, isActive}
 use Rattle.state.proofs.SeatLaws.{well-formed-held, active-not-free}
 use Rattle.records.specs.declared.Announcement.{Announcement}
 use Rattle.records.specs.declared.AnnouncementRead.the-variants.{Read}
-use Rattle.records.specs.Layout.{announcementSize}
+use Rattle.records.specs.Layout.{announcementSize, doorCount}
 use Rattle.records.specs.Announcement.{readAnnouncement}
 use Rattle.records.specs.Sheet.{level1, level2}
 use Rattle.records.proofs.Ranges.{announcements-in-range, starts-in-range}
@@ -34,8 +34,10 @@ use Rattle.node.specs.declared.DeliverReply.{DeliverReply}
 use Rattle.node.specs.declared.QueryReply.{QueryReply}
 use Rattle.node.specs.declared.StartReply.{StartReply}
 use Rattle.node.specs.declared.StartAnswer.the-variants.{Started, Refused}
-use Rattle.verdicts.specs.Own.{mostMisses, ownAfresh, withVote, withMisses}
-use Rattle.node.specs.Query.{withMissCount, queryOf}
+use Rattle.verdicts.specs.Own.{ownAfresh, withVote}
+use Rattle.verdicts.specs.Attempts.{mostMisses, missesAt, withMisses, noMisses, areInRange}
+use Rattle.verdicts.proofs.Misses.{still-in-range}
+use Rattle.node.specs.Query.{withCounts, queryOf}
 use Rattle.node.specs.Deliver.{deliverOf}
 use Rattle.node.specs.Start.{startOf}
 use Rattle.node.specs.Claims as Comes
@@ -52,7 +54,6 @@ record OwnIs (s : State) (o : Own) : Type 0 where
   held : seatAt (o .seat) (s .seats) .standing ≢ free
   life : 1 ≤ o .life
   vote : isWellFormedVote (s .cycle) (o .voted) (o .vote) ≡ true
-  misses : o .misses ≤ mostMisses
 
 own-is : (s : State) (o : Own) → isWellFormedOwn s o ≡ true → OwnIs s o
 unfolding isWellFormedOwn
@@ -62,13 +63,12 @@ own-is s o e =
       seat = ltb-true _ _ (t .0);
       held = eqb-false _ _ (not-true _ (t .1 .0));
       life = leb-true _ _ (t .1 .1 .0);
-      vote = t .1 .1 .1 .0;
-      misses = leb-true _ _ (t .1 .1 .1 .1);
+      vote = t .1 .1 .1;
     }
 
 own-well-formed : (s : State) (o : Own) → OwnIs s o → isWellFormedOwn s o ≡ true
 unfolding isWellFormedOwn
-own-well-formed s o p = rw (lt-ltb _ _ (p .seat), ne-eqb _ _ (p .held), le-leb _ _ (p .life), p .vote) (le-leb _ _ (p .misses))
+own-well-formed s o p = rw (lt-ltb _ _ (p .seat), ne-eqb _ _ (p .held), le-leb _ _ (p .life)) (p .vote)
 
 -- a vote of 24 bytes fits its place
 bytes-fit : (n : ℕ) (b : List ℕ) → length b ≡ n → Bytes b → FitsRows byte n b
@@ -83,20 +83,21 @@ unfolding FitsRows
 zeros-fit zero = tt
 zeros-fit (suc n) = (omega arith, zeros-fit n)
 
--- a node whose own part has no vote and no misses
+-- a node that has no vote and no misses
 afresh : (s : State) (seat life : ℕ) → Actions.WellFormed s → seat < seatCount → seatAt seat (s .seats) .standing ≢ free → 1 ≤ life → life < 2 ^ 32
-    → WellFormedNode (record { state = s; own = ownAfresh seat life })
-unfolding isWellFormedVote all
+    → WellFormedNode (record { state = s; own = ownAfresh seat life; counts = noMisses })
+unfolding isWellFormedVote areInRange all
 afresh s seat life w i h l u = record {
-  fits = (w .fits, ((omega arith, omega arith), ((omega arith, zeros-fit announcementSize), omega arith)));
+  fits = (w .fits, ((omega arith, omega arith), ((omega arith, zeros-fit announcementSize), zeros-fit doorCount)));
   state = w .well-formed;
-  own = own-well-formed s (ownAfresh seat life) (record { seat = i; held = h; life = l; vote = refl; misses = omega arith });
+  own = own-well-formed s (ownAfresh seat life) (record { seat = i; held = h; life = l; vote = refl });
+  counts = refl;
 }
 
 -- a node after a vote for an announcement of its cycle
 voted : (n : Node) (ab : List ℕ) (a : Announcement) → readAnnouncement ab ≡ Read a → a .cycle ≡ n .state .cycle → length ab ≡ announcementSize
     → Bytes ab
-    → WellFormedNode n → WellFormedNode (record { state = n .state; own = withVote ab (n .own) })
+    → WellFormedNode n → WellFormedNode (record { state = n .state; own = withVote ab (n .own); counts = n .counts })
 unfolding isWellFormedVote
 voted n ab a ra same long h w =
     let o = own-is (n .state) (n .own) (w .own) in
@@ -107,19 +108,28 @@ voted n ab a ra same long h w =
       fits = (w .fits .0, (f .0, ((omega arith, bytes-fit announcementSize ab long h), f .1 .1)));
       state = w .state;
       own = own-well-formed (n .state) (withVote ab (n .own))
-          (record { seat = o .seat; held = o .held; life = o .life; vote = vote; misses = o .misses });
+          (record { seat = o .seat; held = o .held; life = o .life; vote = vote });
+      counts = w .counts;
     }
 
--- a node with another number of misses
-missed : (n : Node) (m : ℕ) → m ≤ mostMisses → WellFormedNode n → WellFormedNode (withMissCount m n)
-missed n m h w =
-    let o = own-is (n .state) (n .own) (w .own) in
+-- a table of bytes fits its place with another byte in it
+set-fits : (k : ℕ) (l : List ℕ) (i m : ℕ) → m < 256 → FitsRows byte k l → FitsRows byte k (set l i m)
+unfolding FitsRows
+set-fits zero [] i m h f = f
+set-fits zero (x ∷ xs) i m h f = absurd f
+set-fits (suc k) [] i m h f = f
+set-fits (suc k) (x ∷ xs) zero m h f = (h, f .1)
+set-fits (suc k) (x ∷ xs) (suc i) m h f = (f .0, set-fits k xs i m h (f .1))
+
+-- a node with another number of misses at a door
+missed : (n : Node) (door m : ℕ) → m ≤ mostMisses → WellFormedNode n → WellFormedNode (withCounts (withMisses door m (n .counts)) n)
+missed n door m h w =
     let f = w .fits .1 in
     record {
-      fits = (w .fits .0, (f .0, (f .1 .0, omega arith)));
+      fits = (w .fits .0, (f .0, (f .1 .0, set-fits doorCount (n .counts .misses) door m (omega arith) (f .1 .1))));
       state = w .state;
-      own = own-well-formed (n .state) (withMisses m (n .own))
-          (record { seat = o .seat; held = o .held; life = o .life; vote = o .vote; misses = h });
+      own = w .own;
+      counts = still-in-range (n .counts) door m (w .counts) h;
     }
 
 -- ---- deliver
@@ -144,8 +154,8 @@ deliver-keeps-well-formed n ab sb h w = by-delivery n ab sb (deliverOf n ab sb) 
 
 by-asking : (n : Node) (qb : List ℕ) (r : QueryReply) → Asking n qb r → WellFormedNode n → WellFormedNode (r .node)
 by-asking n qb r (Comes.refuses k l y e) w = rw e w
-by-asking n qb r (Comes.misses k l m y e) w = rw e (missed n (n .own .misses + 1) (omega arith) w)
-by-asking n qb r (Comes.opens q rq o e) w = rw e (missed n 0 (omega arith) w)
+by-asking n qb r (Comes.misses k q l rq m y e) w = rw e (missed n (q .door) (missesAt (q .door) (n .counts) + 1) (omega arith) w)
+by-asking n qb r (Comes.opens q rq o e) w = rw e (missed n (q .door) 0 (omega arith) w)
 
 pub query-keeps-well-formed : QueryKeepsWellFormed
 query-keeps-well-formed n qb w = by-asking n qb (queryOf n qb) (query-comes-to n qb) w

@@ -34,7 +34,8 @@ use Rattle.checkpoint.specs.Layout.{checkpointSize}
 use Rattle.checkpoint.specs.Checkpoint.{isCheckpoint, readCheckpoint}
 use Rattle.rules.specs.Rules.{isSigned}
 use Rattle.actions.specs.Perform.{perform}
-use Rattle.verdicts.specs.Own.{mostMisses, heldSeat}
+use Rattle.verdicts.specs.Own.{heldSeat}
+use Rattle.verdicts.specs.Attempts.{mostMisses, missesAt}
 use Rattle.node.specs.declared.Node.{Node}
 use Rattle.node.specs.Answers.{startNumber, deliverNumber, queryNumber, checkpointNumber, pageNumber}
 use Rattle.node.specs.Start.{startOf}
@@ -91,12 +92,14 @@ pub record Starts (cb sb : List ℕ) (y : Start) (seat : Seat) : Type 0 where
   pub record-read : readStart sb ≡ S.Read y
   pub named : seat ≡ seatAt (y .seat) (readCheckpoint cb .state .seats)
 
--- 1: a record, or start's checkpoint
+-- 1: a record, start's checkpoint, or a query's counts
 pub data Malformed : Asked → Type 0 where
   of-checkpoint : {cb sb : List ℕ} → isCheckpoint cb ≡ false → Malformed (start cb sb)
   of-start : {cb sb : List ℕ} → readStart sb ≡ S.Malformed → Malformed (start cb sb)
   of-announcement : {n : Node} {ab sb : List ℕ} → readAnnouncement ab ≡ A.Malformed → Malformed (at n (deliver ab sb))
   of-query : {n : Node} {qb : List ℕ} → readQuery qb ≡ Q.Malformed → Malformed (at n (query qb))
+  -- "a lent count above 10 is rule 1"
+  of-count : {n : Node} {qb : List ℕ} (door : ℕ) → mostMisses < missesAt door (n .counts) → Malformed (at n (query qb))
 
 -- 9: what each kind asks of the seat's standing does not hold of it
 pub data Unfit : Asked → Type 0 where
@@ -191,8 +194,8 @@ pub data Applies : Asked → ℕ → Type 0 where
   -- 16 "no quorum, and voted for other bytes this cycle"
   no-16 : {n : Node} {ab sb : List ℕ} {a : Announcement} → Announces ab a → NoQuorum n sb → n .own .voted ≡ true → n .own .vote ≢ ab
       → Applies (at n (deliver ab sb)) 16
-  -- 17 "misses are 10", their most
-  no-17 : {n : Node} {c : Call} → mostMisses ≤ n .own .misses → Applies (at n c) 17
+  -- 17 "misses are 10", their most, at the query's door
+  no-17 : {n : Node} {qb : List ℕ} {q : Query} → Queries qb q → mostMisses ≤ missesAt (q .door) (n .counts) → Applies (at n (query qb)) 17
   -- 18 "t minus agreed day above S": "Let t be the later of given and agreed day."
   no-18 : {n : Node} {qb : List ℕ} {q : Query} → Queries qb q
       → n .state .minima .silence < daysSince (laterDay (q .day) (n .state .day)) (n .state .day) → Applies (at n (query qb)) 18

@@ -28,9 +28,10 @@ use Rattle.node.specs.declared.QueryReply.{QueryReply}
 use Rattle.node.specs.declared.QueryAnswer.the-variants as QueryAnswer
 use Rattle.node.specs.declared.StartReply.{StartReply}
 use Rattle.node.specs.declared.StartAnswer.the-variants as StartAnswer
-use Rattle.verdicts.specs.Own.{mostMisses, heldSeat, ownAfresh, withVote}
+use Rattle.verdicts.specs.Own.{heldSeat, ownAfresh, withVote}
+use Rattle.verdicts.specs.Attempts.{mostMisses, missesAt, withMisses, noMisses}
 use Rattle.node.specs.Deliver.{deliverOf}
-use Rattle.node.specs.Query.{withMissCount, queryOf}
+use Rattle.node.specs.Query.{withCounts, queryOf}
 use Rattle.node.specs.Start.{blankNode, startOf}
 
 -- ---- deliver
@@ -65,13 +66,13 @@ pub data Delivery (n : Node) (ab sb : List ℕ) (r : DeliverReply) : Type 0 wher
   refuses : (k : ℕ) → DeliverRefused n ab sb k → r ≡ record { node = n; answer = DeliverAnswer.Refused k } → Delivery n ab sb r
   votes : (a : Announcement) → Accepted n ab sb a → ¬ ShowsQuorum n sb → MayVote n
       → r ≡ record {
-        node = record { state = n .state; own = withVote ab (n .own) };
+        node = record { state = n .state; own = withVote ab (n .own); counts = n .counts };
         answer = DeliverAnswer.Voted;
       }
       → Delivery n ab sb r
   performs : (a : Announcement) → Accepted n ab sb a → ShowsQuorum n sb
       → r ≡ record {
-        node = record { state = perform (n .state) a; own = ownAfresh (n .own .seat) (n .own .life) };
+        node = record { state = perform (n .state) a; own = ownAfresh (n .own .seat) (n .own .life); counts = noMisses };
         answer = DeliverAnswer.Done;
       }
       → Delivery n ab sb r
@@ -84,8 +85,9 @@ DeliverComesTo = (n : Node) (ab sb : List ℕ) → Delivery n ab sb (deliverOf n
 -- why a query is refused with the number k; t is "the later of given and agreed day"
 pub data QueryRefused (n : Node) (qb : List ℕ) (k : ℕ) : Type 0 where
   malformed : k ≡ 1 → readQuery qb ≡ Q.Malformed → QueryRefused n qb k
+  count-above : (door : ℕ) → k ≡ 1 → mostMisses < missesAt door (n .counts) → QueryRefused n qb k
   halted : (q : Query) → k ≡ 3 → readQuery qb ≡ Q.Read q → heldSeat (n .state) (n .own) .standing ≡ retired → QueryRefused n qb k
-  locked : (q : Query) → k ≡ 17 → readQuery qb ≡ Q.Read q → mostMisses ≤ n .own .misses → QueryRefused n qb k
+  locked : (q : Query) → k ≡ 17 → readQuery qb ≡ Q.Read q → mostMisses ≤ missesAt (q .door) (n .counts) → QueryRefused n qb k
   silent : (q : Query) → k ≡ 18 → readQuery qb ≡ Q.Read q
       → n .state .minima .silence < daysSince (laterDay (q .day) (n .state .day)) (n .state .day) → QueryRefused n qb k
   unlisted : (q : Query) → k ≡ 19 → readQuery qb ≡ Q.Read q → isListed (q .login) (n .state .logins) ≡ false → QueryRefused n qb k
@@ -94,10 +96,18 @@ pub data QueryRefused (n : Node) (qb : List ℕ) (k : ℕ) : Type 0 where
   right-not-held : (q : Query) → k ≡ 21 → readQuery qb ≡ Q.Read q → isListed (q .login) (n .state .logins) ≡ true
       → holdsRight (q .right) (findLogin (q .login) (n .state .logins)) ≡ false → QueryRefused n qb k
 
+-- the same node with one miss more at the door, and with none there
+abbrev pub oneMissMore : ℕ → Node → Node
+oneMissMore door n = withCounts (withMisses door (missesAt door (n .counts) + 1) (n .counts)) n
+
+abbrev pub noMissesAt : ℕ → Node → Node
+noMissesAt door n = withCounts (withMisses door 0 (n .counts)) n
+
 -- nothing refuses the query q
 pub record Opens (n : Node) (q : Query) : Type 0 where
+  pub none-above : (door : ℕ) → missesAt door (n .counts) ≤ mostMisses
   pub running : heldSeat (n .state) (n .own) .standing ≢ retired
-  pub unlocked : n .own .misses < mostMisses
+  pub unlocked : missesAt (q .door) (n .counts) < mostMisses
   pub within-silence : daysSince (laterDay (q .day) (n .state .day)) (n .state .day) ≤ n .state .minima .silence
   pub listed : isListed (q .login) (n .state .logins) ≡ true
   pub not-ended : DayNotAfter (laterDay (q .day) (n .state .day)) (findLogin (q .login) (n .state .logins) .end)
@@ -105,9 +115,9 @@ pub record Opens (n : Node) (q : Query) : Type 0 where
 
 pub data Asking (n : Node) (qb : List ℕ) (r : QueryReply) : Type 0 where
   refuses : (k : ℕ) → k ≤ 18 → QueryRefused n qb k → r ≡ record { node = n; answer = QueryAnswer.Refused k } → Asking n qb r
-  misses : (k : ℕ) → 19 ≤ k → n .own .misses < mostMisses → QueryRefused n qb k
-      → r ≡ record { node = withMissCount (n .own .misses + 1) n; answer = QueryAnswer.Refused k } → Asking n qb r
-  opens : (q : Query) → readQuery qb ≡ Q.Read q → Opens n q → r ≡ record { node = withMissCount 0 n; answer = QueryAnswer.Open } → Asking n qb r
+  misses : (k : ℕ) (q : Query) → 19 ≤ k → readQuery qb ≡ Q.Read q → missesAt (q .door) (n .counts) < mostMisses → QueryRefused n qb k
+      → r ≡ record { node = oneMissMore (q .door) n; answer = QueryAnswer.Refused k } → Asking n qb r
+  opens : (q : Query) → readQuery qb ≡ Q.Read q → Opens n q → r ≡ record { node = noMissesAt (q .door) n; answer = QueryAnswer.Open } → Asking n qb r
 
 abbrev pub QueryComesTo : Type 0
 QueryComesTo = (n : Node) (qb : List ℕ) → Asking n qb (queryOf n qb)
@@ -129,7 +139,7 @@ pub data Starting (cb sb : List ℕ) (r : StartReply) : Type 0 where
       → isActive (seatAt (x .seat) (readCheckpoint cb .state .seats)) ≡ true
       → seatAt (x .seat) (readCheckpoint cb .state .seats) .life ≤ x .life
       → r ≡ record {
-        node = record { state = readCheckpoint cb .state; own = ownAfresh (x .seat) (x .life) };
+        node = record { state = readCheckpoint cb .state; own = ownAfresh (x .seat) (x .life); counts = noMisses };
         answer = StartAnswer.Started;
       }
       → Starting cb sb r

@@ -13,6 +13,7 @@ use Rattle.records.specs.Sheet.{isSheet}
 use Rattle.actions.specs.Perform.{withoutLapsed, perform}
 use Rattle.verdicts.specs.declared.Own.{Own}
 use Rattle.verdicts.specs.Own.{ownAfresh, withVote}
+use Rattle.verdicts.specs.Attempts.{noMisses}
 use Rattle.verdicts.specs.Verdicts.{deliverRefusal, showsQuorum, voteRefusal}
 use Rattle.node.specs.declared.Node.{Node}
 use Rattle.node.specs.declared.DeliverReply.{DeliverReply}
@@ -21,15 +22,15 @@ use Rattle.node.specs.declared.DeliverAnswer.the-variants.{Done, Voted, 
 abbrev pub refusesDelivery : Node → ℕ → DeliverReply
 refusesDelivery n k = record { node = n; answer = Refused k }
 
--- done, with this state: "vote cleared, misses 0"
+-- done, with this state: "vote cleared, misses 0"; "A performed action clears all four."
 abbrev pub leaves : State → Own → DeliverReply
-leaves s o = record { node = record { state = s; own = ownAfresh (o .seat) (o .life) }; answer = Done }
+leaves s o = record { node = record { state = s; own = ownAfresh (o .seat) (o .life); counts = noMisses }; answer = Done }
 
 abbrev pub performs : Node → Announcement → DeliverReply
 performs n a = leaves (perform (n .state) a) (n .own)
 
 abbrev pub votes : Node → List ℕ → DeliverReply
-votes n ab = record { node = record { state = n .state; own = withVote ab (n .own) }; answer = Voted }
+votes n ab = record { node = record { state = n .state; own = withVote ab (n .own); counts = n .counts }; answer = Voted }
 
 -- without a quorum: refused by k, or votes where k is 0
 abbrev pub withoutQuorum : Node → List ℕ → ℕ → DeliverReply

@@ -12,6 +12,7 @@ use Rattle.records.specs.declared.StartRead.the-variants.{Read, Malformed}
 use Rattle.records.specs.StartQuery.{readStart}
 use Rattle.checkpoint.specs.Checkpoint.{CheckpointRead, readCheckpoint}
 use Rattle.verdicts.specs.Own.{ownAfresh}
+use Rattle.verdicts.specs.Attempts.{noMisses}
 use Rattle.verdicts.specs.Verdicts.{startRefusal}
 use Rattle.node.specs.declared.Node.{Node}
 use Rattle.node.specs.declared.StartReply.{StartReply}
@@ -19,13 +20,13 @@ use Rattle.node.specs.declared.StartAnswer.the-variants.{Started, Refuse
 
 -- "a refused start yields no node"
 unfoldable pub blankNode : Node
-blankNode = record { state = blankState; own = ownAfresh 0 0 }
+blankNode = record { state = blankState; own = ownAfresh 0 0; counts = noMisses }
 
 abbrev pub refusesStart : ℕ → StartReply
 refusesStart k = record { node = blankNode; answer = Refused k }
 
 abbrev pub starts : State → Start → StartReply
-starts s x = record { node = record { state = s; own = ownAfresh (x .seat) (x .life) }; answer = Started }
+starts s x = record { node = record { state = s; own = ownAfresh (x .seat) (x .life); counts = noMisses }; answer = Started }
 
 unfoldable pub startRead : State → Start → StartReply
 startRead s x = let k = startRefusal s x in cond (eqb k 0) (starts s x) (refusesStart k)

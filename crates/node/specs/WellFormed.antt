@@ -16,41 +16,46 @@ use Rattle.state.specs.Seats.{free}
 use Rattle.state.specs.WellFormed.{isWellFormed}
 use Rattle.records.specs.declared.AnnouncementRead.{AnnouncementRead}
 use Rattle.records.specs.declared.AnnouncementRead.the-variants.{Read, Malformed}
-use Rattle.records.specs.Layout.{announcementSize}
+use Rattle.records.specs.Layout.{announcementSize, doorCount}
 use Rattle.records.specs.Announcement.{readAnnouncement}
 use Rattle.checkpoint.specs.Checkpoint as Checkpoint
 use Rattle.verdicts.specs.declared.Own.{Own}
-use Rattle.verdicts.specs.Own.{mostMisses, heldSeat}
+use Rattle.verdicts.specs.declared.AttemptCounts.{AttemptCounts}
+use Rattle.verdicts.specs.Own.{heldSeat}
+use Rattle.verdicts.specs.Attempts.{areInRange}
 use Rattle.node.specs.declared.Node.{Node}
 use Rattle.node.specs.declared.StartAnswer.the-variants.{Started}
 use Rattle.node.specs.Start.{startOf}
 use Rattle.node.specs.Deliver.{deliverOf}
 use Rattle.node.specs.Query.{queryOf}
 
--- the own part in numbers and bytes
+-- the own part and the counts in numbers and bytes
 pub record OwnFields : Type 0 where
   pub seat : ℕ
   pub life : ℕ
   pub flag : ℕ
   pub vote : List ℕ
-  pub misses : ℕ
+  pub misses : List ℕ
 
--- seat 1, life 4, voted flag 1, voted announcement 24, misses 1
+-- seat 1, life 4, voted flag 1, voted announcement 24, misses 1; and "3 bytes at its end, the counts of doors 1 to 3"
 abbrev pub ownFields : Codec OwnFields
 ownFields =
-    onto ((byte ⊗ number 4) ⊗ (byte ⊗ rows byte announcementSize) ⊗ byte)
+    onto ((byte ⊗ number 4) ⊗ (byte ⊗ rows byte announcementSize) ⊗ rows byte doorCount)
     (λ p. record { seat = p .0 .0; life = p .0 .1; flag = p .1 .0 .0; vote = p .1 .0 .1; misses = p .1 .1 })
     (λ o. ((o .seat, o .life), ((o .flag, o .vote), o .misses)))
 
-abbrev pub fieldsOf : Own → OwnFields
-fieldsOf o = record { seat = o .seat; life = o .life; flag = cond (o .voted) 1 0; vote = o .vote; misses = o .misses }
+abbrev pub fieldsOf : Own → AttemptCounts → OwnFields
+fieldsOf o c = record { seat = o .seat; life = o .life; flag = cond (o .voted) 1 0; vote = o .vote; misses = c .misses }
 
 abbrev pub ownOf : OwnFields → Own
-ownOf p = record { seat = p .seat; life = p .life; voted = eqb (p .flag) 1; vote = p .vote; misses = p .misses }
+ownOf p = record { seat = p .seat; life = p .life; voted = eqb (p .flag) 1; vote = p .vote }
+
+abbrev pub countsOf : OwnFields → AttemptCounts
+countsOf p = record { misses = p .misses }
 
 -- what a Node in memory is: each number within its width, each table and the vote of its length
 abbrev pub Fits : Node → Type 0
-Fits n = Checkpoint.Fits (n .state) × ownFields .Fits (fieldsOf (n .own))
+Fits n = Checkpoint.Fits (n .state) × ownFields .Fits (fieldsOf (n .own) (n .counts))
 
 -- a well-formed announcement of this cycle
 abbrev pub isReadIn : Cycle → AnnouncementRead → Bool
@@ -66,14 +71,14 @@ isWellFormedOwn s o =
     ltb (o .seat) seatCount
     && (not (eqb (heldSeat s o .standing) free)
     && (leb 1 (o .life)
-    && (isWellFormedVote (s .cycle) (o .voted) (o .vote)
-    && leb (o .misses) mostMisses)))
+    && isWellFormedVote (s .cycle) (o .voted) (o .vote)))
 
--- a node as memory can hold it, with a well-formed state and a well-formed own part
+-- a node as memory can hold it, with a well-formed state and a well-formed own part, and no count above 10
 pub record WellFormedNode (n : Node) : Type 0 where
   pub fits : Fits n
   pub state : isWellFormed (n .state) ≡ true
   pub own : isWellFormedOwn (n .state) (n .own) ≡ true
+  pub counts : areInRange (n .counts) ≡ true
 
 -- ---- no call by value hands back a node that is not well formed
 

@@ -1,12 +1,9 @@
 // The calls, by value: each consumes the node and hands back the next one with its answer.
 ghost use mathlib.Core.Path.{_≡_};
-ghost use mathlib.Core.Bool.{true};
-ghost use Prim.Native.Nat.{_<_};
 ghost use lib.ListN.{length};
 ghost use Rattle.records.specs.Layout.{announcementSize};
 ghost use Rattle.node.specs.Deliver.{refusesDelivery, leaves, votes, deliverOf};
-ghost use Rattle.verdicts.specs.Own.{mostMisses};
-ghost use Rattle.node.specs.Query.{withMissCount, addsMiss, queryReply, queryOf};
+ghost use Rattle.node.specs.Query.{queryOf};
 ghost use Rattle.node.specs.Start.{blankNode, refusesStart, startRead, startOf};
 ghost use Rattle.node.specs.Checkpoint.{checkpointOf, checkpointSlice};
 ghost use Rattle.node.specs.Page.{pageOf, pageSlice};
@@ -17,10 +14,10 @@ use crate::DeliverReply;
 use crate::Node;
 use crate::PageAnswer;
 use crate::PageReply;
-use crate::QueryAnswer;
 use crate::QueryReply;
 use crate::StartAnswer;
 use crate::StartReply;
+use crate::queries::ask;
 use actions::advance;
 use binary::size;
 use checkpoint::is_checkpoint;
@@ -30,12 +27,10 @@ use checkpoint::write_checkpoint;
 use page::layout::LINE_SIZE;
 use page::write_page;
 use records::AnnouncementRead;
-use records::QueryRead;
 use records::Start;
 use records::StartRead;
 use records::is_sheet;
 use records::read_announcement;
-use records::read_query;
 use records::read_start;
 use rules::find;
 use state::Day;
@@ -48,12 +43,11 @@ use tables::proposals::drop_lapsed;
 use tables::proposals::has_lapsed;
 use verdicts::Own;
 use verdicts::deliver_refusal;
+use verdicts::no_misses;
 use verdicts::own_afresh;
-use verdicts::query_refusal;
 use verdicts::shows_quorum;
 use verdicts::start_refusal;
 use verdicts::vote_refusal;
-use verdicts::with_misses;
 use verdicts::with_vote;
 
 fn refuse_delivery(n: Node, number: u8) -> DeliverReply
@@ -70,8 +64,13 @@ fn leave(state: State, own: Own) -> DeliverReply
     ensures { λ r. ⌜ r ≡ leaves state own ⌝ }
 {
     let afresh = own_afresh(own.seat, own.life);
+    let counts = no_misses();
     DeliverReply {
-        node: Node { state, own: afresh },
+        node: Node {
+            state,
+            own: afresh,
+            counts,
+        },
         answer: DeliverAnswer::Done,
     }
 }
@@ -82,11 +81,13 @@ fn vote_for(n: Node, announcement: &[u8]) -> DeliverReply
 {
     let state = n.state;
     let own = n.own;
+    let counts = n.counts;
     let voted = with_vote(own, announcement);
     DeliverReply {
         node: Node {
-            state: state,
+            state,
             own: voted,
+            counts,
         },
         answer: DeliverAnswer::Voted,
     }
@@ -98,7 +99,8 @@ pub fn blank_node() -> Node
 {
     let state = blank_state();
     let own = own_afresh(0, 0);
-    Node { state, own }
+    let counts = no_misses();
+    Node { state, own, counts }
 }
 
 fn refuse_start(number: u8) -> StartReply
@@ -120,46 +122,14 @@ fn start_read(s: State, x: Start) -> StartReply
         return refuse_start(k);
     }
     let own = own_afresh(x.seat, x.life);
+    let counts = no_misses();
     StartReply {
-        node: Node { state: s, own },
+        node: Node {
+            state: s,
+            own,
+            counts,
+        },
         answer: StartAnswer::Started,
-    }
-}
-
-// The reply to a query that leaves the node with this many misses.
-fn reply_with_misses(n: Node, misses: u8, answer: QueryAnswer) -> QueryReply
-    ensures { λ r. ⌜ r ≡ record { node = withMissCount misses n; answer = answer } ⌝ }
-{
-    let state = n.state;
-    let own = with_misses(n.own, misses);
-    QueryReply {
-        node: Node { state, own },
-        answer,
-    }
-}
-
-// Whether a query that is refused with this number adds a miss.
-pub fn adds_miss(number: u8) -> bool
-    ensures { λ r. ⌜ r ≡ addsMiss number ⌝ }
-{
-    (19 <= number) & (number <= 21)
-}
-
-// The reply to a query that is refused with this number, or open where it is 0.
-fn reply_to_query(n: Node, number: u8) -> QueryReply
-    requires { ⌜ (addsMiss number ≡ true → n .own .misses < mostMisses) ⌝ }
-    ensures { λ r. ⌜ r ≡ queryReply n number ⌝ }
-{
-    if number == 0 {
-        return reply_with_misses(n, 0, QueryAnswer::Open);
-    }
-    if adds_miss(number) {
-        let own = n.own;
-        return reply_with_misses(n, own.misses + 1, QueryAnswer::Refused(number));
-    }
-    QueryReply {
-        node: n,
-        answer: QueryAnswer::Refused(number),
     }
 }
 
@@ -218,18 +188,19 @@ impl Node {
         vote_for(self, announcement)
     }
 
-    // May the login use the right on the day?
+    // May the login use the right on the day, at the door?
     pub fn query(self, query: &[u8]) -> QueryReply
         ensures { λ r. ⌜ r ≡ queryOf self (now (query .entry)) ⌝ }
     {
-        let read = read_query(query);
-        let QueryRead::Read(q) = read else {
-            return reply_to_query(self, 1);
-        };
         let state = self.state;
         let own = self.own;
-        let number = query_refusal(state, own, q);
-        reply_to_query(self, number)
+        let r = ask(state, own, self.counts, query);
+        let counts = r.counts;
+        let answer = r.answer;
+        QueryReply {
+            node: Node { state, own, counts },
+            answer,
+        }
     }
 
     // Writes the checkpoint to the front of the slice, where it has room.

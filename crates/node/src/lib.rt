@@ -1,14 +1,19 @@
 // The node, and what each of its calls hands back.
 use state::State;
+use verdicts::AttemptCounts;
 use verdicts::Own;
 
 mod calls;
+mod queries;
 
 pub use calls::blank_node;
+pub use queries::ask;
+pub use queries::ask_lent;
 
 pub struct Node {
     pub state: State,
     pub own: Own,
+    pub counts: AttemptCounts,
 }
 
 // Refused holds the number of the rule.
@@ -52,6 +57,12 @@ pub struct DeliverReply {
 
 pub struct QueryReply {
     pub node: Node,
+    pub answer: QueryAnswer,
+}
+
+// An answer, and the counts of misses after it.
+pub struct CountedAnswer {
+    pub counts: AttemptCounts,
     pub answer: QueryAnswer,
 }
 

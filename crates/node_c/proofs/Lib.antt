@@ -1,3 +1,3 @@
 -- What a call for C returns.
 pub mod Calls
-mod Kept
+pub mod Kept

@@ -28,6 +28,7 @@ use roster::import_roster;
 use state::Cycle;
 use state::Day;
 use state::State;
+use verdicts::AttemptCounts;
 use verdicts::Own;
 
 // Each answer's number.
@@ -106,28 +107,28 @@ fn try_room(room: bool, k: u32) -> u32
 }
 
 // For C, what a call handed back that kept the state: the image's state is the checkpoint's bytes that came with the call.
-fn hand_on(state: &[u8], own: Own, k: u32, out: &mut [u8]) -> u32
+fn hand_on(state: &[u8], own: Own, counts: AttemptCounts, k: u32, out: &mut [u8]) -> u32
     requires { ⌜ (writesImage k ≡ true → length (now state) ≡ checkpointSize) ⌝ }
     ensures { λ r. ⌜ r ≡ tryRoom (leb imageSize (length (now (out .entry)))) k ⌝ }
-    ensures { λ r. ⌜ now (out .exit) ≡ cond (writesImage r) (overwrite (withOwn (now (state .entry)) own) (now (out .entry))) (now (out .entry)) ⌝ }
+    ensures { λ r. ⌜ now (out .exit) ≡ cond (writesImage r) (overwrite (withOwn (now (state .entry)) own counts) (now (out .entry))) (now (out .entry)) ⌝ }
 {
     let number = try_room(IMAGE_SIZE <= out.len(), k);
     if writes_image(number) {
-        put_image(state, own, out);
+        put_image(state, own, counts, out);
         return number;
     }
     number
 }
 
-// For C, what a delivery handed back that performed: the image is of the whole node, which comes in its two parts, so that neither is copied.
-fn hand_out(state: State, own: Own, out: &mut [u8]) -> u32
-    ensures { λ r. ⌜ r ≡ return (record { node = record { state = state; own = own }; number = 0 }) (now (out .entry)) .number ⌝ }
-    ensures { λ r. ⌜ now (out .exit) ≡ return (record { node = record { state = state; own = own }; number = 0 }) (now (out .entry)) .slice ⌝ }
+// For C, what a delivery handed back that performed: the image is of the whole node, which comes in its parts, so that none is copied.
+fn hand_out(state: State, own: Own, counts: AttemptCounts, out: &mut [u8]) -> u32
+    ensures { λ r. ⌜ r ≡ return (record { node = record { state = state; own = own; counts = counts }; number = 0 }) (now (out .entry)) .number ⌝ }
+    ensures { λ r. ⌜ now (out .exit) ≡ return (record { node = record { state = state; own = own; counts = counts }; number = 0 }) (now (out .entry)) .slice ⌝ }
 {
     if out.len() < IMAGE_SIZE {
         return 22;
     }
-    write_image(state, own, out);
+    write_image(state, own, counts, out);
     0
 }
 
@@ -139,7 +140,7 @@ pub extern "C" fn node_start(checkpoint: &[u8], start: &[u8], out: &mut [u8]) ->
     let r = Node::start(checkpoint, start);
     let node = r.node;
     let answer = r.answer;
-    hand_on(checkpoint, node.own, start_number(answer), out)
+    hand_on(checkpoint, node.own, node.counts, start_number(answer), out)
 }
 
 #[no_mangle]
@@ -161,9 +162,9 @@ pub extern "C" fn node_deliver(
         if k == 0 {
             let state = node.state;
             let own = node.own;
-            return hand_out(state, own, out);
+            return hand_out(state, own, node.counts, out);
         }
-        return hand_on(&image[0..CHECKPOINT_SIZE], node.own, k, out);
+        return hand_on(&image[0..CHECKPOINT_SIZE], node.own, node.counts, k, out);
     }
     1
 }
@@ -177,10 +178,12 @@ pub extern "C" fn node_query(image: &[u8], query: &[u8], out: &mut [u8]) -> u32
         let held = node_in(image);
         let r = held.query(query);
         let node = r.node;
+        let counts = node.counts;
         let answer = r.answer;
         return hand_on(
             &image[0..CHECKPOINT_SIZE],
             node.own,
+            counts,
             query_number(answer),
             out,
         );

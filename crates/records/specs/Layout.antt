@@ -41,3 +41,14 @@ kindQuery = 20
 
 abbrev pub queryLength : ℕ
 queryLength = 11
+
+-- "A new query, kind 21, carries the door in a byte after the right"
+abbrev pub kindDoorQuery : ℕ
+kindDoorQuery = 21
+
+abbrev pub doorQueryLength : ℕ
+doorQueryLength = 12
+
+-- "doors 0 to 3"
+abbrev pub doorCount : ℕ
+doorCount = 4

@@ -32,3 +32,15 @@ pub const QUERY: u16 = 20;
 pub const QUERY_LENGTH: u16 = 11;
 
 pub const QUERY_SIZE: usize = 13;
+
+// A query that names its door.
+pub const DOOR_QUERY: u16 = 21;
+
+pub const DOOR_QUERY_LENGTH: u16 = 12;
+
+pub const DOOR_QUERY_SIZE: usize = 14;
+
+pub const DOORS: usize = 4;
+
+// Doors are numbered below this.
+pub const DOOR_NUMBERS: u8 = 4;

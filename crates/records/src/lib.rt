@@ -54,11 +54,12 @@ pub enum StartRead {
     Malformed,
 }
 
-// May this login use this right on this day?
+// May this login use this right on this day, at this door?
 pub struct Query {
     pub login: u32,
     pub day: Day,
     pub right: u8,
+    pub door: u8,
 }
 
 pub enum QueryRead {

@@ -3,6 +3,9 @@ use super::Query;
 use super::QueryRead;
 use super::Start;
 use super::StartRead;
+use super::layout::DOOR_NUMBERS;
+use super::layout::DOOR_QUERY;
+use super::layout::DOOR_QUERY_LENGTH;
 use super::layout::QUERY;
 use super::layout::QUERY_LENGTH;
 use super::layout::START;
@@ -33,19 +36,22 @@ pub fn read_start(b: &[u8]) -> StartRead
     }
 }
 
-// Reads bytes that are exactly one well-formed query.
+// Reads bytes that are exactly one well-formed query. One that names no door is at door 0.
 pub fn read_query(b: &[u8]) -> QueryRead
     ensures { λ r. ⌜ r ≡ readQuery (now (b .entry)) ⌝ }
 {
-    if !is_record(b, QUERY_LENGTH, QUERY) {
+    let named = is_record(b, DOOR_QUERY_LENGTH, DOOR_QUERY);
+    if !(is_record(b, QUERY_LENGTH, QUERY) | named) {
         return QueryRead::Malformed;
     }
     let right = b[12];
-    if right < RIGHTS {
+    let door = if named { b[13] } else { 0 };
+    if (right < RIGHTS) & (door < DOOR_NUMBERS) {
         QueryRead::Read(Query {
             login: u32_at(b, 4),
             day: Day(u32_at(b, 8)),
             right,
+            door,
         })
     } else {
         QueryRead::Malformed

@@ -9,14 +9,15 @@ use lib.ListN.{length, drop, length-append, length-drop}
 use lib.Seq.{take-append-le, drop-append-le}
 use borrow.Author.Tests.{le-leb}
 use Rattle.binary.specs.Number.{fromBytes, field}
-use Rattle.records.specs.Layout.{kindSheet, kindStart, kindQuery}
+use Rattle.records.specs.Layout.{kindSheet, kindStart}
 use Rattle.checkpoint.specs.Layout.{kindCheckpoint}
 use Rattle.node.specs.declared.Node.{Node}
 use Rattle.lists.proofs.Tests.{cond-cases}
 use Rattle.requests.specs.declared.Frame.{Frame}
 use Rattle.requests.specs.declared.Frame.the-variants.{Record, Cut}
 use Rattle.requests.specs.declared.Step.{Step}
-use Rattle.requests.specs.Framing.{recordHead, sizeOf, kindOf, isAnnouncement, leastSize, hasSecond, holdsRecord, frameOf, holdsRequest}
+use Rattle.requests.specs.Framing.{recordHead, sizeOf, kindOf, isAnnouncement, isQuery, leastSize, hasSecond}
+use Rattle.requests.specs.Framing.{holdsRecord, frameOf, holdsRequest}
 use Rattle.requests.specs.Requests.{isNone, cuts, withSecond, stepStart, stepDeliver, stepQuery, placed, stepOf}
 use Rattle.requests.specs.Claims.{MoreInput}
 use Rattle.requests.proofs.Frames.{record-heads, record-fits, frame-fits}
@@ -83,7 +84,7 @@ module _ (c : List ℕ) where
       (λ _. cond-both (eqb (kindOf b) kindStart)
       (λ e. start-front n b (sizeOf b) fits (second (rw e (or-true (isAnnouncement (kindOf b))))))
       (λ _. cond-both (isNone n) (λ _. refl)
-      (λ _. cond-both (eqb (kindOf b) kindQuery) (λ _. query-front n b (sizeOf b) fits)
+      (λ _. cond-both (isQuery (kindOf b)) (λ _. query-front n b (sizeOf b) fits)
       (λ _. cond-both (isAnnouncement (kindOf b)) (λ e. deliver-front n b (sizeOf b) fits (second (rw e refl))) (λ _. refl)))))
       (λ _. refl)
 

@@ -69,7 +69,7 @@ query-held n qb h = go (query-comes-to n qb)
   where
     go : Asking n qb (queryOf n qb) → isNone (queryOf n qb .node) ≡ false
     go (Asking.refuses k l w e) = rw e h
-    go (Asking.misses k l m w e) = rw e h
+    go (Asking.misses k q l r m w e) = rw e h
     go (Asking.opens q r w e) = rw e h
 
 start-held : (cb sb : List ℕ) → startOf cb sb .answer ≡ S.Started → isNone (startOf cb sb .node) ≡ false

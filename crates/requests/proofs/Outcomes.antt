@@ -1,13 +1,13 @@
 -- What becomes of a request: it is cut, or the input holds it whole and a call answers it.
 use mathlib.Core.Path.{_≡_, refl}
-use mathlib.Core.Bool.{true}
+use mathlib.Core.Bool.{Bool, true, false, _||_}
 use mathlib.Core.List.{List}
 use Prim.Native.Nat.{ℕ, _+_, _≤_}
 use native.Mathlib.Omega.{arith}
 use lib.Dec.{eqb}
 use lib.ListN.{length, take, drop}
 use borrow.Author.Tests.{eqb-true}
-use Rattle.records.specs.Layout.{kindSheet, kindStart, kindQuery}
+use Rattle.records.specs.Layout.{kindSheet, kindStart, kindQuery, kindDoorQuery}
 use Rattle.checkpoint.specs.Layout.{kindCheckpoint}
 use Rattle.node.specs.declared.Node.{Node}
 use Rattle.node.specs.Start.{startOf}
@@ -17,7 +17,7 @@ use Rattle.lists.proofs.Tests.{cond-cases}
 use Rattle.requests.specs.declared.Frame.{Frame}
 use Rattle.requests.specs.declared.Frame.the-variants.{Record, Cut}
 use Rattle.requests.specs.declared.Step.{Step}
-use Rattle.requests.specs.Framing.{isAnnouncement, frameOf, holdsRequest}
+use Rattle.requests.specs.Framing.{isAnnouncement, isQuery, frameOf, hasSecond, holdsRequest}
 use Rattle.requests.specs.Requests.{isNone, cuts, answers, deliverAnswer, queryAnswer, afterStart, withSecond, placed, stepOf}
 use Rattle.requests.specs.Requests.{stepStart, stepDeliver, stepQuery}
 use Rattle.requests.proofs.Frames.{frame-fits, frame-some, frame-held, second-fits, one-held, two-held}
@@ -28,14 +28,19 @@ pub record Whole (b : List ℕ) (used : ℕ) : Type 0 where
   pub fits : used ≤ length b
   pub held : holdsRequest b ≡ true
 
-whole-one : (b : List ℕ) (size kind : ℕ) → frameOf b ≡ Record size kind → eqb kind kindQuery ≡ true → Whole b size
-whole-one b size kind e t =
-    let k : kind ≡ kindQuery = eqb-true _ _ t in
-    record {
-      some = frame-some b size kind e;
-      fits = frame-fits b size kind e;
-      held = one-held b size kind (rw k refl) e;
-    }
+query-alone : (kind : ℕ) → isQuery kind ≡ true → hasSecond kind ≡ false
+query-alone kind = go (eqb kind kindQuery) refl
+  where
+    go : (t : Bool) → eqb kind kindQuery ≡ t → (t || eqb kind kindDoorQuery) ≡ true → hasSecond kind ≡ false
+    go true t e = let k : kind ≡ kindQuery = eqb-true _ _ t in rw k refl
+    go false t e = let k : kind ≡ kindDoorQuery = eqb-true _ _ e in rw k refl
+
+whole-one : (b : List ℕ) (size kind : ℕ) → frameOf b ≡ Record size kind → isQuery kind ≡ true → Whole b size
+whole-one b size kind e t = record {
+  some = frame-some b size kind e;
+  fits = frame-fits b size kind e;
+  held = one-held b size kind (query-alone kind t) e;
+}
 
 whole-two : (b : List ℕ) (size kind more k : ℕ) → frameOf b ≡ Record size kind → frameOf (drop size b) ≡ Record more k
     → Whole b (size + more)
@@ -68,7 +73,7 @@ module _ (n : Node) (b : List ℕ) (P : Step → Type 0)
       cond-cases P (eqb kind kindStart)
       (λ _. second-cases kindCheckpoint _ rest (frameOf rest) (λ more k g. start (size + more) (take more rest) (take size b) (two more k g)))
       (λ _. cond-cases P (isNone n) (λ _. cut)
-      (λ _. cond-cases P (eqb kind kindQuery) (λ t. query size (take size b) (whole-one b size kind e t))
+      (λ _. cond-cases P (isQuery kind) (λ t. query size (take size b) (whole-one b size kind e t))
       (λ _. cond-cases P (isAnnouncement kind)
       (λ _. second-cases kindSheet _ rest (frameOf rest) (λ more k g. deliver (size + more) (take size b) (take more rest) (two more k g)))
       (λ _. cut))))

@@ -1,4 +1,4 @@
--- "Records are framed by their length and placed by their kind (1 to 9, 16, 18, 19, 20)."
+-- "Records are framed by their length and placed by their kind (1 to 9, 16, 18, 19, 20)."; "node-run places 21 as a query"
 use Prim.Native.Nat.{ℕ, _+_}
 use mathlib.Core.List.{List}
 use mathlib.Core.Bool.{Bool, cond, not, _&&_, _||_}
@@ -6,7 +6,8 @@ use lib.Dec.{eqb, leb}
 use lib.ListN.{length, drop}
 use Rattle.binary.specs.Number.{field}
 use Rattle.state.specs.Kinds.{kindPropose, kindEnd}
-use Rattle.records.specs.Layout.{announcementSize, kindSheet, sheetHead, kindStart, startLength, kindQuery, queryLength}
+use Rattle.records.specs.Layout.{announcementSize, kindSheet, sheetHead, kindStart, startLength}
+use Rattle.records.specs.Layout.{kindQuery, queryLength, kindDoorQuery, doorQueryLength}
 use Rattle.checkpoint.specs.Layout.{kindCheckpoint, checkpointSize}
 use Rattle.requests.specs.declared.Frame.{Frame}
 use Rattle.requests.specs.declared.Frame.the-variants.{Record, Cut}
@@ -25,6 +26,10 @@ kindOf b = field 2 2 b
 abbrev pub isAnnouncement : ℕ → Bool
 isAnnouncement kind = leb kindPropose kind && leb kind kindEnd
 
+-- kind 20, and kind 21, which names its door
+abbrev pub isQuery : ℕ → Bool
+isQuery kind = eqb kind kindQuery || eqb kind kindDoorQuery
+
 -- "A record too short for its kind (a sheet: under 7 bytes)": the fewest bytes of a record of that kind
 unfoldable pub leastSize : ℕ → ℕ
 leastSize kind =
@@ -33,7 +38,8 @@ leastSize kind =
     (cond (eqb kind kindSheet) sheetHead
     (cond (eqb kind kindStart) (startLength + 2)
     (cond (eqb kind kindQuery) (queryLength + 2)
-    recordHead))))
+    (cond (eqb kind kindDoorQuery) (doorQueryLength + 2)
+    recordHead)))))
 
 -- b holds all of the record at its front
 unfoldable pub holdsRecord : List ℕ → Bool

@@ -5,7 +5,7 @@ use mathlib.Core.Bool.{Bool, true, false, cond}
 use lib.Dec.{eqb}
 use lib.ListN.{take, drop}
 use Rattle.state.specs.Time.{cycle, isSameCycle}
-use Rattle.records.specs.Layout.{kindSheet, kindStart, kindQuery}
+use Rattle.records.specs.Layout.{kindSheet, kindStart}
 use Rattle.checkpoint.specs.Layout.{kindCheckpoint}
 use Rattle.node.specs.declared.Node.{Node}
 use Rattle.node.specs.declared.StartReply.{StartReply}
@@ -23,7 +23,7 @@ use Rattle.requests.specs.declared.Frame.the-variants.{Record, Cut}
 use Rattle.requests.specs.declared.Answer.{Answer}
 use Rattle.requests.specs.declared.Answer.the-variants as Answer
 use Rattle.requests.specs.declared.Step.{Step}
-use Rattle.requests.specs.Framing.{isAnnouncement, frameOf}
+use Rattle.requests.specs.Framing.{isAnnouncement, isQuery, frameOf}
 
 -- The blank node, whose cycle is 0, stands for none: no start takes a checkpoint of cycle 0.
 abbrev pub isNone : Node → Bool
@@ -83,7 +83,7 @@ placed n b Cut = cuts n
 placed n b (Record size kind) =
     cond (eqb kind kindStart) (stepStart n size b)
     (cond (isNone n) (cuts n)
-    (cond (eqb kind kindQuery) (stepQuery n size b)
+    (cond (isQuery kind) (stepQuery n size b)
     (cond (isAnnouncement kind) (stepDeliver n size b) (cuts n))))
 
 -- the request at the front of the input b, at node n

@@ -2,12 +2,14 @@
 ghost use mathlib.Core.Path.{_≡_};
 ghost use Prim.Native.Nat.{_≤_};
 ghost use lib.ListN.{length};
-ghost use Rattle.requests.specs.Framing.{recordHead, sizeOf, isAnnouncement, leastSize, holdsRecord, frameOf, hasSecond, holdsRequest};
+ghost use Rattle.requests.specs.Framing.{recordHead, sizeOf, isAnnouncement, isQuery, leastSize, holdsRecord, frameOf, hasSecond, holdsRequest};
 use crate::Frame;
 use binary::u16_at;
 use checkpoint::layout::CHECKPOINT;
 use checkpoint::layout::CHECKPOINT_SIZE;
 use records::layout::ANNOUNCEMENT_SIZE;
+use records::layout::DOOR_QUERY;
+use records::layout::DOOR_QUERY_SIZE;
 use records::layout::QUERY;
 use records::layout::QUERY_SIZE;
 use records::layout::SHEET;
@@ -27,6 +29,13 @@ pub fn is_announcement(kind: u16) -> bool
     (PROPOSE <= kind) & (kind <= END)
 }
 
+// Whether a record of this kind is a query, at door 0 or at a door that it names.
+pub fn is_query(kind: u16) -> bool
+    ensures { λ r. ⌜ r ≡ isQuery kind ⌝ }
+{
+    (kind == QUERY) | (kind == DOOR_QUERY)
+}
+
 // The fewest bytes of a record of this kind.
 fn least_size(kind: u16) -> usize
     ensures { λ r. ⌜ r ≡ leastSize kind ⌝ }
@@ -39,6 +48,7 @@ fn least_size(kind: u16) -> usize
         SHEET => SHEET_HEAD,
         START => START_SIZE,
         QUERY => QUERY_SIZE,
+        DOOR_QUERY => DOOR_QUERY_SIZE,
         _ => RECORD_HEAD,
     }
 }

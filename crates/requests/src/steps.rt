@@ -8,13 +8,13 @@ use crate::Frame;
 use crate::Step;
 use crate::framing::frame;
 use crate::framing::is_announcement;
+use crate::framing::is_query;
 use checkpoint::layout::CHECKPOINT;
 use node::DeliverAnswer;
 use node::Node;
 use node::QueryAnswer;
 use node::StartAnswer;
 use node::StartReply;
-use records::layout::QUERY;
 use records::layout::SHEET;
 use records::layout::START;
 use state::Cycle;
@@ -152,7 +152,7 @@ pub fn take_step(n: Node, b: &[u8]) -> Step
     if is_none(n) {
         return cut(n);
     }
-    if kind == QUERY {
+    if is_query(kind) {
         return step_query(n, size, b);
     }
     if is_announcement(kind) {

@@ -1,3 +1,4 @@
--- Laws of the own seat, and of the bytes of a vote.
+-- Laws of the own seat, of the bytes of a vote, and of the counts of misses.
 pub mod Halting
 pub mod VoteBytes
+pub mod Misses

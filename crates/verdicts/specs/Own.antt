@@ -1,4 +1,4 @@
--- "Own part: seat, life, the announcement voted for in this cycle if any, misses (0 to 10)."
+-- "Own part: seat, life, the announcement voted for in this cycle if any, misses (0 to 10).": the misses stand on the next page.
 use Prim.Native.Nat.{ℕ}
 use mathlib.Core.List.{List}
 use mathlib.Core.Bool.{Bool, true, false, not, _&&_}
@@ -10,9 +10,6 @@ use Rattle.state.specs.declared.State.{State}
 use Rattle.state.specs.Seats.{retired, seatAt, isPresent}
 use Rattle.records.specs.Layout.{announcementSize}
 use Rattle.verdicts.specs.declared.Own.{Own}
-
-abbrev pub mostMisses : ℕ
-mostMisses = 10
 
 -- the seat of the own part, as the state lists it
 abbrev pub heldSeat : State → Own → Seat
@@ -33,12 +30,9 @@ votedOtherwise o announcement = o .voted && not (isSameBytes (o .vote) announcem
 abbrev pub noVote : List ℕ
 noVote = replicate announcementSize 0
 
--- no vote, no misses
+-- no vote
 abbrev pub ownAfresh : ℕ → ℕ → Own
-ownAfresh seat life = record { seat = seat; life = life; voted = false; vote = noVote; misses = 0 }
+ownAfresh seat life = record { seat = seat; life = life; voted = false; vote = noVote }
 
 abbrev pub withVote : List ℕ → Own → Own
-withVote announcement o = record { seat = o .seat; life = o .life; voted = true; vote = announcement; misses = o .misses }
-
-abbrev pub withMisses : ℕ → Own → Own
-withMisses m o = record { seat = o .seat; life = o .life; voted = o .voted; vote = o .vote; misses = m }
+withVote announcement o = record { seat = o .seat; life = o .life; voted = true; vote = announcement }

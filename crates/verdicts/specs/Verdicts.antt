@@ -15,7 +15,9 @@ use Rattle.records.specs.declared.Start.{Start}
 use Rattle.records.specs.Sheet.{level1, level2, rowsOf, countedSeats}
 use Rattle.rules.specs.Rules.{timeRefusal, actionRefusal}
 use Rattle.verdicts.specs.declared.Own.{Own}
-use Rattle.verdicts.specs.Own.{mostMisses, isHalted, canVote, votedOtherwise}
+use Rattle.verdicts.specs.declared.AttemptCounts.{AttemptCounts}
+use Rattle.verdicts.specs.Own.{isHalted, canVote, votedOtherwise}
+use Rattle.verdicts.specs.Attempts.{mostMisses, missesAt}
 
 -- rules 3 to 14 for an announcement with the sheet sb
 unfoldable pub deliverRefusal : State → Own → Announcement → List ℕ → ℕ
@@ -41,11 +43,11 @@ loginRefusal s q =
     orElse refuseIf (isEnded t row) 20
     orElse refuseIf (not (holdsRight (q .right) row)) 21
 
--- rules 3 and 17 to 21: "Let t be the later of given and agreed day."
-unfoldable pub queryRefusal : State → Own → Query → ℕ
-queryRefusal s o q =
+-- rules 3 and 17 to 21, the misses being those at the query's door: "Let t be the later of given and agreed day."
+unfoldable pub queryRefusal : State → Own → AttemptCounts → Query → ℕ
+queryRefusal s o c q =
     refuseIf (isHalted s o) 3
-    orElse refuseIf (leb mostMisses (o .misses)) 17
+    orElse refuseIf (leb mostMisses (missesAt (q .door) c)) 17
     orElse refuseIf (isSilent (s .day) (s .minima .silence) (laterDay (q .day) (s .day))) 18
     orElse loginRefusal s q
 

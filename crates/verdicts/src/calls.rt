@@ -10,8 +10,10 @@ ghost use Rattle.state.specs.declared.State.{State};
 ghost use Rattle.verdicts.specs.declared.Own.{Own};
 ghost use Rattle.verdicts.specs.Own.{heldSeat};
 ghost use Rattle.verdicts.specs.Verdicts.{deliverRefusal, showsQuorum, voteRefusal, loginRefusal, queryRefusal, startRefusal};
+use crate::AttemptCounts;
 use crate::MOST_MISSES;
 use crate::Own;
+use crate::attempts::misses_at;
 use crate::own_part::can_vote;
 use crate::own_part::held_seat;
 use crate::own_part::is_halted;
@@ -97,8 +99,8 @@ fn login_refusal(s: State, q: Query) -> u8
 }
 
 // Rules 3 and 17 to 21.
-pub fn query_refusal(s: State, own: Own, q: Query) -> u8
-    ensures { λ r. ⌜ r ≡ queryRefusal s own q ⌝ }
+pub fn query_refusal(s: State, own: Own, counts: AttemptCounts, q: Query) -> u8
+    ensures { λ r. ⌜ r ≡ queryRefusal s own counts q ⌝ }
 {
     let agreed = s.day;
     let minima = s.minima;
@@ -108,7 +110,7 @@ pub fn query_refusal(s: State, own: Own, q: Query) -> u8
     if is_halted(held) {
         return 3;
     }
-    if MOST_MISSES <= own.misses {
+    if MOST_MISSES <= misses_at(counts, q.door) {
         return 17;
     }
     if is_silent(agreed, minima.silence, t) {

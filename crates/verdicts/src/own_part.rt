@@ -6,7 +6,7 @@ ghost use lib.ListN.{length};
 ghost use Rattle.binary.specs.Number.{isSameBytes};
 ghost use Rattle.records.specs.Layout.{announcementSize};
 ghost use Rattle.state.specs.Seats.{retired, isPresent};
-ghost use Rattle.verdicts.specs.Own.{heldSeat, votedOtherwise, ownAfresh, withVote, withMisses};
+ghost use Rattle.verdicts.specs.Own.{heldSeat, votedOtherwise, ownAfresh, withVote};
 use crate::Own;
 use records::layout::ANNOUNCEMENT_SIZE;
 use state::Seat;
@@ -74,7 +74,7 @@ fn vote_of(b: &[u8]) -> [u8; ANNOUNCEMENT_SIZE]
     vote
 }
 
-// No vote, no misses.
+// No vote.
 pub fn own_afresh(seat: u8, life: u32) -> Own
     ensures { λ r. ⌜ r ≡ ownAfresh seat life ⌝ }
 {
@@ -84,7 +84,6 @@ pub fn own_afresh(seat: u8, life: u32) -> Own
         life: life,
         voted: false,
         vote: vote,
-        misses: 0,
     }
 }
 
@@ -96,13 +95,5 @@ pub fn with_vote(own: Own, announcement: &[u8]) -> Own
     let mut out = own;
     out.voted = true;
     out.vote = vote;
-    out
-}
-
-pub fn with_misses(own: Own, misses: u8) -> Own
-    ensures { λ r. ⌜ r ≡ withMisses misses own ⌝ }
-{
-    let mut out = own;
-    out.misses = misses;
     out
 }

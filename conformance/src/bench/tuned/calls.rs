@@ -87,11 +87,11 @@ pub fn node_query(image: &[u8], query: &[u8], out: &mut [u8]) -> u32 {
     let number = query_refusal(&state, &own, &query);
     let misses = match number {
         0 => 0,
-        19..=21 => own.misses + 1,
+        19..=21 => own.misses[query.door] + 1,
         _ => return number,
     };
     out[..IMAGE].copy_from_slice(image);
-    out[MISSES] = misses;
+    out[MISSES + query.door] = misses;
     number
 }
 

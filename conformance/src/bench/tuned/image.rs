@@ -5,23 +5,23 @@ use super::bytes::{all_zero, is_record, u16_at, u32_at, u64_at};
 use super::state::{quorum, Login, Proposal, Seat, State, FREE, PRESENT, RETIRED};
 
 pub const CHECKPOINT: usize = 1108;
-pub const IMAGE: usize = 1139;
+pub const IMAGE: usize = 1142;
 const SEATS: usize = 18;
 const PROPOSALS: usize = 178;
 const LOGINS: usize = 467;
 
-/// The place of the own part in an image and of its fields.
+/// The place of the own part in an image and of its fields; the misses of each door have a byte.
 pub const OWN: usize = CHECKPOINT;
 pub const VOTED: usize = OWN + 5;
 pub const VOTE: usize = OWN + 6;
 pub const MISSES: usize = OWN + 30;
 
-/// The own part; the vote stays in the image.
+/// The own part; the vote and the misses stay in the image.
 pub struct Own<'a> {
     pub seat: usize,
     pub life: u32,
     pub vote: Option<&'a [u8]>,
-    pub misses: u8,
+    pub misses: &'a [u8],
 }
 
 impl State {
@@ -159,12 +159,12 @@ pub fn read<'a>(image: &'a [u8], state: &mut State) -> Option<Own<'a>> {
         seat: image[OWN].into(),
         life: u32_at(image, OWN + 1),
         vote: (image[VOTED] == 1).then_some(&image[VOTE..MISSES]),
-        misses: image[MISSES],
+        misses: &image[MISSES..],
     };
     let fits = own.seat < 32
         && state.seats[own.seat].standing != FREE
         && own.life >= 1
-        && own.misses <= 10
+        && own.misses.iter().all(|count| *count <= 10)
         && image[VOTED] <= 1
         && match own.vote {
             Some(vote) => Announcement::read(vote).is_some_and(|vote| vote.cycle == state.cycle),

@@ -11,6 +11,7 @@ pub struct Query {
     pub login: u32,
     pub day: u32,
     pub right: u8,
+    pub door: usize,
 }
 
 impl Start {
@@ -24,10 +25,16 @@ impl Start {
 
 impl Query {
     pub fn read(bytes: &[u8]) -> Option<Query> {
-        (is_record(bytes, 13, 20) && bytes[12] <= 15).then(|| Query {
+        let door = match bytes.len() {
+            13 if is_record(bytes, 13, 20) => 0,
+            14 if is_record(bytes, 14, 21) => bytes[13],
+            _ => return None,
+        };
+        (bytes[12] <= 15 && door <= 3).then(|| Query {
             login: u32_at(bytes, 4),
             day: u32_at(bytes, 8),
             right: bytes[12],
+            door: door.into(),
         })
     }
 }

@@ -122,7 +122,7 @@ pub fn query_refusal(state: &State, own: &Own, query: &Query) -> u32 {
     if state.seats[own.seat].standing == RETIRED {
         return 3;
     }
-    if own.misses >= 10 {
+    if own.misses[query.door] >= 10 {
         return 17;
     }
     if day - state.day > state.silence.into() {

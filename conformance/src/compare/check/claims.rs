@@ -1,8 +1,9 @@
 //! The claims about a whole history (document 01, "One park, one list"): nodes at equal cycles
 //! share one state, and an ended login is not open beyond the silence limit. Both hold for lawful
 //! starts within the bound on double voters. The claims about pages are in `pages`, those about
-//! notices in `notices`.
+//! notices in `notices`, those about doors in `doors`.
 
+use super::doors;
 use super::notices;
 use super::one_call;
 use super::pages::{Pages, WORDS};
@@ -92,6 +93,7 @@ impl Claims {
     /// Takes up a call. Only answer 0 starts, performs, opens or gives.
     pub fn note(&mut self, event: &Event) -> Result<(), String> {
         notices::check(event)?;
+        doors::check(event)?;
         let (0, Some(written)) = (event.outcome.number, &event.outcome.written) else {
             return Ok(());
         };

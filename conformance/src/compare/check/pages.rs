@@ -1,12 +1,12 @@
 //! The claims about pages (request A1). Nodes at equal cycles give one page for one day: for lawful
 //! starts within the bound on double voters. The word of a line agrees with what a query answers:
-//! for every node that is neither halted nor locked.
+//! for every node that is not halted, at a door that is not locked.
 
 use crate::archive;
 use crate::compare::call::answer_in;
 use crate::compare::fields::{Login, OwnFields, StateFields};
 use crate::compare::make::records;
-use crate::layout::{IMAGE_SIZE, LINE_SIZE, MISSES, WORD};
+use crate::layout::{DOORS, IMAGE_SIZE, LINE_SIZE, WORD};
 use std::collections::HashMap;
 
 /// The words of a line, each with what a query for a right that is held answers.
@@ -35,18 +35,26 @@ impl Pages {
             Some(_) => self.shared += 1,
             None => drop(self.seen.insert((state.cycle, day), page.to_vec())),
         }
-        if own.is_halted(&state) || u32::from(own.misses) == MISSES.high {
+        let free = (0..DOORS).find(|door| !own.is_locked(*door));
+        let Some(door) = free.filter(|_| !own.is_halted(&state)) else {
             return Ok(());
-        }
+        };
         for (row, line) in state.logins.iter().zip(page.chunks(LINE_SIZE)) {
-            self.ask(image, day, row, line)?;
+            self.ask(image, day, door as u8, (row, line))?;
         }
         Ok(())
     }
 
-    /// Asks for a right that the row holds.
-    fn ask(&mut self, image: &[u8], day: u32, row: &Login, line: &[u8]) -> Result<(), String> {
-        let query = records::query(row.login, day, row.rights.trailing_zeros() as u8);
+    /// Asks at a door for a right that the row holds.
+    fn ask(
+        &mut self,
+        image: &[u8],
+        day: u32,
+        door: u8,
+        (row, line): (&Login, &[u8]),
+    ) -> Result<(), String> {
+        let right = row.rights.trailing_zeros() as u8;
+        let query = records::door_query(row.login, day, right, door);
         let returned = archive::node_query(image, &query, &mut [0; IMAGE_SIZE]);
         let number = answer_in(returned);
         let word = line.get(WORD).unwrap_or_default();

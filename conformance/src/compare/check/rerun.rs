@@ -1,6 +1,7 @@
 //! Runs a history again, and shortens one that fails, and a roster.
 
 use super::claims::{Claims, Tally};
+use super::doors;
 use super::hosts::Hosts;
 use super::one_call;
 use super::second::Second;
@@ -22,7 +23,10 @@ pub fn again(
             claims.note(&event).map_err(|what| (place, what))?;
         }
     }
-    claims.verdict().map_err(|what| (history.calls.len(), what))
+    let tally = claims.verdict();
+    let tally = tally.map_err(|what| (history.calls.len(), what))?;
+    doors::apart(second, history)?;
+    Ok(tally)
 }
 
 fn fails(second: &'static Second, history: &History) -> Option<(usize, String)> {

@@ -3,6 +3,7 @@
 
 use super::random::Random;
 use super::records;
+use super::starts_queries;
 use super::values;
 use crate::compare::fields::StateFields;
 
@@ -27,5 +28,6 @@ pub fn query(rng: &mut Random, state: &StateFields, login: u32) -> Vec<u8> {
     let silence = u32::from(state.silence);
     let base = state.day.saturating_sub(rng.pick(&[0, 0, 1, silence]));
     let day = base.saturating_add(rng.pick(&[0, silence, silence, silence + 1]));
-    records::query(login, day, 0)
+    let door = starts_queries::any_door(rng);
+    starts_queries::at_door(rng, door, (login, day, 0))
 }

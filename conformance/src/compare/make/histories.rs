@@ -12,9 +12,17 @@ use super::states;
 use crate::compare::call::{Call, Event, History, Records};
 use crate::compare::check::hosts::Hosts;
 use crate::compare::fields::{OwnFields, StateFields, PRESENT};
-use crate::layout::{kind_of, CHECKPOINT_SIZE};
+use crate::layout::{kind_of, CHECKPOINT_SIZE, DOOR};
 use crate::paper::{Answer, Node};
 use std::collections::HashMap;
+
+/// Queries that add misses at a door of a host until it is locked, or nearly so.
+#[derive(Clone, Copy, Default)]
+struct BadQueries {
+    host: usize,
+    door: u8,
+    left: u32,
+}
 
 pub struct HistoryMaker {
     rng: Random,
@@ -26,8 +34,8 @@ pub struct HistoryMaker {
     chosen: HashMap<Vec<u8>, (Vec<u8>, u32)>,
     /// Earlier deliveries, to be repeated at any host.
     sent: Vec<Records>,
-    /// A host and how many bad queries it gets next.
-    bad_queries: (usize, u32),
+    /// What comes next at one door.
+    bad_queries: BadQueries,
 }
 
 impl HistoryMaker {
@@ -48,7 +56,7 @@ impl HistoryMaker {
             given: Vec::new(),
             chosen: HashMap::new(),
             sent: Vec::new(),
-            bad_queries: (0, 0),
+            bad_queries: BadQueries::default(),
         };
         (maker, history)
     }
@@ -58,7 +66,7 @@ impl HistoryMaker {
     }
 
     pub fn call(&mut self, hosts: &Hosts) -> Call {
-        let (mut host, left) = self.bad_queries;
+        let BadQueries { mut host, left, .. } = self.bad_queries;
         if left == 0 {
             host = self.rng.below(hosts.count());
         }
@@ -107,7 +115,11 @@ impl HistoryMaker {
             return starts_queries::page(&mut self.rng, &state);
         }
         if self.rng.chance(2) {
-            self.bad_queries = (host, self.rng.within(9, 12));
+            self.bad_queries = BadQueries {
+                host,
+                door: self.rng.of(&DOOR) as u8,
+                left: self.rng.within(9, 12),
+            };
         }
         if self.rng.chance(self.habits.queries) {
             let mut query = match self.habits.focus {
@@ -151,11 +163,16 @@ impl HistoryMaker {
     }
 
     fn bad_query(&mut self, image: &[u8]) -> Records {
-        self.bad_queries.1 -= 1;
-        match StateFields::read(image) {
-            Some(state) => Records::Query(starts_queries::bad_query(&mut self.rng, &state)),
-            None => Records::Checkpoint,
-        }
+        self.bad_queries.left -= 1;
+        let BadQueries { door, left, .. } = self.bad_queries;
+        let Some(state) = StateFields::read(image) else {
+            return Records::Checkpoint;
+        };
+        // The last may open, with nine misses before it or more.
+        Records::Query(match left == 0 && self.rng.chance(40) {
+            true => starts_queries::aimed_query(&mut self.rng, &state, door),
+            false => starts_queries::bad_query(&mut self.rng, &state, door),
+        })
     }
 
     fn deliver(

@@ -10,7 +10,7 @@ use super::states;
 use super::values::LAST_DATE;
 use crate::compare::call::{Records, Request};
 use crate::compare::fields::{Login, OwnFields, Proposal, StateFields};
-use crate::layout::{kind_of, CHECKPOINT_SIZE, LOGINS};
+use crate::layout::{kind_of, CHECKPOINT_SIZE, DOORS, LOGINS};
 
 /// Requests to one state.
 pub fn requests(rng: &mut Random) -> Vec<Request> {
@@ -67,7 +67,7 @@ fn to_member(state: &StateFields, records: Records) -> Request {
         seat: 0,
         life: 1,
         vote: None,
-        misses: 0,
+        misses: [0; DOORS],
     };
     let image = own.image(state);
     let out = records.size(&image);

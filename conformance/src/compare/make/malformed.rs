@@ -5,11 +5,9 @@ use crate::compare::fields::{put, Login, Proposal, StateFields, FREE, PRESENT};
 use crate::layout::{
     self, kind_of, least_size, Field, ACTIONS, ANNOUNCEMENT_SIZE, ARGUMENTS, BODY,
 };
-use crate::layout::{CHECKPOINT, CHECKPOINT_SIZE, KIND, LOGINS, MISSES_AT, PROPOSALS, QUERY};
-use crate::layout::{
-    QUERY_KIND, ROWS, ROW_COUNT, ROW_COUNT_AT, ROW_SIZE, SEATS, START, START_KIND,
-};
-use crate::layout::{SUBJECT_KIND, SUBJECT_SIZE, VOTE, VOTED_AT};
+use crate::layout::{CHECKPOINT, CHECKPOINT_SIZE, DOORS, KIND, LOGINS, MISSES_AT, PROPOSALS, ROWS};
+use crate::layout::{ROW_COUNT, ROW_COUNT_AT, ROW_SIZE, SEATS, START, START_KIND, SUBJECT_KIND};
+use crate::layout::{SUBJECT_SIZE, VOTE, VOTED_AT};
 
 /// Damages the bytes of any record.
 pub fn bytes(rng: &mut Random, record: &mut Vec<u8>) {
@@ -99,7 +97,7 @@ fn beyond(rng: &mut Random, record: &mut [u8]) {
     let changes = match kind {
         1..=9 if is_whole && rng.chance(80) => outside_arguments(record),
         1..=9 => outside(&[KIND], 2),
-        QUERY_KIND if is_whole => outside(&QUERY, BODY),
+        _ if is_whole && layout::is_query(kind) => outside(layout::query_fields(kind), BODY),
         START_KIND if is_whole => outside(&START, BODY),
         _ => vec![(3, vec![1])],
     };
@@ -242,12 +240,12 @@ fn spoil_tables(rng: &mut Random, state: &StateFields) -> Vec<u8> {
 /// An image with one thing wrong in its own part. Some of the changes leave it well formed.
 pub fn own(rng: &mut Random, image: &mut [u8]) {
     let (seat, life) = (CHECKPOINT_SIZE, CHECKPOINT_SIZE + 1);
-    match rng.below(7) {
+    match rng.below(8) {
         0 => image[seat] = rng.pick(&[32, 255, 0, 31]),
         1 => image[life..VOTED_AT].fill(0),
         2 => image[VOTED_AT] = rng.pick(&[0, 1, 2, 2, 255]),
         3 => image[VOTE.start + rng.below(ANNOUNCEMENT_SIZE)] ^= 1 << rng.below(8),
-        4 => image[MISSES_AT] = rng.pick(&[10, 11, 255]),
+        4 | 6 => image[MISSES_AT + rng.below(DOORS)] = rng.pick(&[10, 11, 11, 255]),
         // The cycle of the vote.
         5 => image[VOTE.start + BODY..][..4].fill(255),
         _ => image[seat] = rng.below(SEATS.most) as u8,

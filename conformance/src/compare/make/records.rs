@@ -1,7 +1,11 @@
 //! The bytes of announcements, sheets, starts and queries.
 
-use crate::layout::{record, write, ACTIONS, ARGUMENTS_SIZE, CYCLE_AND_DAY, MASKS, QUERY, ROW};
-use crate::layout::{QUERY_KIND, SHEET_KIND, START, START_KIND, SUBJECT_SIZE};
+use crate::layout::{
+    record, write, ACTIONS, ARGUMENTS_SIZE, CYCLE_AND_DAY, DOOR_QUERY, MASKS, QUERY,
+};
+use crate::layout::{
+    DOOR_QUERY_KIND, QUERY_KIND, ROW, SHEET_KIND, START, START_KIND, SUBJECT_SIZE,
+};
 
 pub fn announcement(kind: u16, cycle: u32, day: u32, arguments: [u8; ARGUMENTS_SIZE]) -> Vec<u8> {
     let mut body = write(&CYCLE_AND_DAY, &[cycle, day]);
@@ -25,6 +29,12 @@ pub fn start(seat: u8, life: u32) -> Vec<u8> {
 
 pub fn query(login: u32, day: u32, right: u8) -> Vec<u8> {
     record(QUERY_KIND, &write(&QUERY, &[login, day, right.into()]))
+}
+
+/// A query that names its door.
+pub fn door_query(login: u32, day: u32, right: u8, door: u8) -> Vec<u8> {
+    let values = [login, day, right.into(), door.into()];
+    record(DOOR_QUERY_KIND, &write(&DOOR_QUERY, &values))
 }
 
 /// The bytes at the front, zeros behind them.

@@ -5,7 +5,7 @@ use super::random::Random;
 use super::records;
 use crate::compare::call::Records;
 use crate::compare::fields::{StateFields, CERTIFIED, PRESENT};
-use crate::layout::RIGHT;
+use crate::layout::{DOOR, RIGHT};
 
 pub fn start(rng: &mut Random, state: &StateFields) -> Vec<u8> {
     let fit = state.seats_of(&[CERTIFIED, PRESENT, PRESENT]);
@@ -26,8 +26,14 @@ pub fn start(rng: &mut Random, state: &StateFields) -> Vec<u8> {
     records::start(seat, life)
 }
 
-/// A query that opens more often than not, or one beside a rule.
+/// A query at any door that opens more often than not, or one beside a rule.
 pub fn query(rng: &mut Random, state: &StateFields) -> Vec<u8> {
+    let door = any_door(rng);
+    aimed_query(rng, state, door)
+}
+
+/// The same at a door.
+pub fn aimed_query(rng: &mut Random, state: &StateFields, door: u8) -> Vec<u8> {
     let login = arguments::listed_login(rng, state);
     let row = state.logins.iter().find(|row| row.login == login);
     let end = row.map_or(state.day, |row| row.end);
@@ -41,7 +47,23 @@ pub fn query(rng: &mut Random, state: &StateFields) -> Vec<u8> {
     } else {
         rng.pick(&held)
     };
-    records::query(login, day, right)
+    at_door(rng, door, (login, day, right))
+}
+
+/// Door 0 more often than each other one, since it has queries of two kinds.
+pub fn any_door(rng: &mut Random) -> u8 {
+    match rng.chance(50) {
+        true => 0,
+        false => rng.of(&DOOR) as u8,
+    }
+}
+
+/// A query at a door: at door 0 it need not name it.
+pub fn at_door(rng: &mut Random, door: u8, (login, day, right): (u32, u32, u8)) -> Vec<u8> {
+    match door {
+        0 if rng.chance(60) => records::query(login, day, right),
+        _ => records::door_query(login, day, right, door),
+    }
 }
 
 /// The given day of a query or a page: around the silence limit and an end day, or soon.
@@ -71,13 +93,14 @@ pub fn page(rng: &mut Random, state: &StateFields) -> Records {
     Records::Page(asked_day(rng, state, end))
 }
 
-/// A query that adds a miss where the misses are not 10: no such login, on the agreed day.
-pub fn bad_query(rng: &mut Random, state: &StateFields) -> Vec<u8> {
+/// A query that adds a miss where the door's misses are not 10: no such login, on the agreed day.
+pub fn bad_query(rng: &mut Random, state: &StateFields, door: u8) -> Vec<u8> {
     let mut login = rng.pick(&[0, 0x0F00_0000]);
     while state.logins.iter().any(|row| row.login == login) {
         login = rng.any32();
     }
-    records::query(login, state.day, rng.of(&RIGHT) as u8)
+    let right = rng.of(&RIGHT) as u8;
+    at_door(rng, door, (login, state.day, right))
 }
 
 /// The length of an output slice for `size` bytes: exact, longer and, with this chance in percent,

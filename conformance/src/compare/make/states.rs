@@ -164,15 +164,20 @@ pub fn any_own(rng: &mut Random, state: &StateFields) -> OwnFields {
     let vote = rng
         .chance(35)
         .then(|| announcements::well_formed(rng, state));
-    let misses = match rng.below(4) {
-        0 => MISSES.high as u8 - rng.pick(&[0, 1]),
-        1 => rng.of(&MISSES) as u8,
-        _ => 0,
-    };
+    let misses = std::array::from_fn(|_| any_misses(rng));
     OwnFields {
         seat,
         life,
         vote,
         misses,
+    }
+}
+
+/// The misses of one door.
+fn any_misses(rng: &mut Random) -> u8 {
+    match rng.below(4) {
+        0 => MISSES.high as u8 - rng.pick(&[0, 1]),
+        1 => rng.of(&MISSES) as u8,
+        _ => 0,
     }
 }

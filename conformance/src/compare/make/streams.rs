@@ -2,19 +2,47 @@
 
 use super::malformed;
 use super::random::Random;
+use super::starts_queries;
 use crate::compare::call::History;
-use crate::layout::{kind_of, least_size};
+use crate::compare::fields::StateFields;
+use crate::layout::{is_query, kind_of, least_size, MISSES};
 
 /// The most records of a stream: what follows damage is seldom read.
 const LONGEST: usize = 60;
 
-/// A stream of a history's records: those of one host or of all, mostly with damage.
+/// A stream of a history's records: those of one host or of all, mostly with damage; seldom one of
+/// its own around a later start.
 pub fn of_history(rng: &mut Random, history: &History) -> Vec<u8> {
+    match StateFields::read(&history.first) {
+        Some(state) if rng.chance(3) => around_start(rng, &state),
+        _ => of_calls(rng, history),
+    }
+}
+
+/// Queries that add misses at one door before and after a later start: together they would lock it.
+fn around_start(rng: &mut Random, state: &StateFields) -> Vec<u8> {
+    let start = [starts_queries::start(rng, state), state.write()].concat();
+    let door = starts_queries::any_door(rng);
+    let mut stream = Vec::new();
+    for _ in 0..2 {
+        stream.extend(&start);
+        for _ in 0..=MISSES.high / 2 {
+            stream.extend(starts_queries::bad_query(rng, state, door));
+        }
+    }
+    stream
+}
+
+fn of_calls(rng: &mut Random, history: &History) -> Vec<u8> {
     let host = rng.below(history.by_value.len());
     let all = rng.chance(30);
     let calls = history.calls.iter().filter(|call| all || call.host == host);
     let records = calls.flat_map(|call| call.records.in_order());
     let mut records: Vec<Vec<u8>> = records.cloned().collect();
+    if rng.chance(5) {
+        // What is before any node may be any record.
+        records.drain(..rng.below(records.len() + 1));
+    }
     records.truncate(rng.within(2, LONGEST as u32) as usize);
     // Damage at the end of a stream is only read where the records before it are whole.
     let (record_damage, stream_damage) = rng.pick(&[
@@ -42,7 +70,7 @@ fn damage_record(rng: &mut Random, records: &mut Vec<Vec<u8>>) {
     if records.is_empty() {
         return;
     }
-    let place = rng.below(records.len());
+    let place = any_place(rng, records);
     let length = records[place].len();
     match rng.below(13) {
         0..=2 => malformed::reframe(&mut records[place], length.saturating_sub(1 + rng.below(2))),
@@ -53,7 +81,7 @@ fn damage_record(rng: &mut Random, records: &mut Vec<Vec<u8>>) {
         }
         4 => malformed::reframe(&mut records[place], length + 1 + rng.below(6)),
         5 if length > 3 => records[place][3] = rng.pick(&[1, 255]),
-        6 if length > 3 => records[place][2] = rng.below(22) as u8,
+        6 if length > 3 => records[place][2] = rng.below(24) as u8,
         7 => {
             records.remove(place);
         }
@@ -65,6 +93,16 @@ fn damage_record(rng: &mut Random, records: &mut Vec<Vec<u8>>) {
         10 if length > 0 => records[place][0] = rng.byte(),
         _ if length > 4 => records[place][4 + rng.below(length - 4)] = rng.pick(&[0, 1, 32, 255]),
         _ => {}
+    }
+}
+
+/// The place of a record, every other time that of a query, if there is one.
+fn any_place(rng: &mut Random, records: &[Vec<u8>]) -> usize {
+    let is_asked = |place: &usize| is_query(kind_of(&records[*place]));
+    let queries: Vec<usize> = (0..records.len()).filter(is_asked).collect();
+    match queries.len() {
+        count if count > 0 && rng.chance(50) => queries[rng.below(count)],
+        _ => rng.below(records.len()),
     }
 }
 

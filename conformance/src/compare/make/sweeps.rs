@@ -2,6 +2,7 @@
 //! slices of every length.
 
 use super::announcements;
+use super::arguments;
 use super::exports;
 use super::malformed;
 use super::random::Random;
@@ -11,7 +12,7 @@ use super::starts_queries;
 use super::states;
 use crate::compare::call::{Records, Request};
 use crate::compare::fields::StateFields;
-use crate::layout::{kind_of, number_at, IMAGE_SIZE};
+use crate::layout::{kind_of, number_at, DOOR, IMAGE_SIZE, RIGHT};
 
 /// What is done with each damaged request; an error ends the sweep.
 pub type Each<'a> = &'a mut dyn FnMut(&Request) -> Result<(), String>;
@@ -19,15 +20,18 @@ pub type Each<'a> = &'a mut dyn FnMut(&Request) -> Result<(), String>;
 /// How many bytes longer than the longest output the longest output slice is.
 const SPARE: usize = 11;
 
-/// Requests to be damaged: a start, a query, a checkpoint, a page, an export and a delivery of each
-/// kind.
+/// Requests to be damaged: a start, a query of each kind, a checkpoint, a page, an export and a
+/// delivery of each kind.
 pub fn bases(rng: &mut Random) -> Vec<Request> {
     let state = states::any_state(rng);
     let own = states::any_own(rng, &state);
     let start = starts_queries::start(rng, &state);
+    let (login, day) = (arguments::listed_login(rng, &state), state.day);
+    let (right, door) = (rng.of(&RIGHT) as u8, rng.of(&DOOR) as u8);
     let mut bases = vec![
         Records::Start(state.write(), start),
-        Records::Query(starts_queries::query(rng, &state)),
+        Records::Query(records::query(login, day, right)),
+        Records::Query(records::door_query(login, day, right, door)),
         Records::Checkpoint,
         starts_queries::page(rng, &state),
         Records::Export(exports::grant(rng)),

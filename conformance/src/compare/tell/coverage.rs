@@ -1,13 +1,14 @@
 //! What the calls met: answers by call, actions, both ends of every range, pages and rosters at their
 //! edges.
 
+use super::doors::Doors;
 use super::notices::Notices;
-use super::ranges::{Range, ANNOUNCED, DATES, HEAD, PERFORMED, RANGES};
+use super::ranges::{Range, ANNOUNCED, ASKED, DATES, HEAD, OWN_MISSES, PERFORMED, RANGES};
 use super::rosters::Rosters;
 use crate::compare::call::{Outcome, Records, Request, CALLS, VOTED};
 use crate::compare::fields::{Login, OwnFields, Seat, StateFields};
-use crate::layout::{self, kind_of, BODY, CHECKPOINT, CYCLE_AND_DAY, MASKS, QUERY, ROW, ROWS};
-use crate::layout::{ROW_SIZE, START};
+use crate::layout::{self, kind_of, query_fields, BODY, CHECKPOINT, CYCLE_AND_DAY, MASKS, ROW};
+use crate::layout::{ROWS, ROW_SIZE, START};
 
 pub struct Coverage {
     pub calls: u64,
@@ -21,6 +22,8 @@ pub struct Coverage {
     pub high: Vec<u64>,
     /// Of histories only.
     pub notices: Notices,
+    /// Of histories, and what is refused by 1 of all calls.
+    pub doors: Doors,
     pub rosters: Rosters,
 }
 
@@ -36,6 +39,7 @@ impl Coverage {
             low: none.clone(),
             high: none,
             notices: Notices::new(),
+            doors: Doors::new(),
             rosters: Rosters::new(),
         }
     }
@@ -52,8 +56,9 @@ impl Coverage {
             _ => {}
         }
         // Answer 1 leaves open which record is malformed, so nothing of them counts.
-        if outcome.number != 1 {
-            self.note_records(request, outcome);
+        match outcome.number {
+            1 => self.doors.note_malformed(request),
+            _ => self.note_records(request, outcome),
         }
     }
 
@@ -72,9 +77,8 @@ impl Coverage {
                 }
             }
             Records::Query(query) => {
-                let values = layout::values(&QUERY, query, BODY);
-                let ranges = [Range::AskedLogin, Range::AskedDay, Range::AskedRight];
-                self.meet_all(&ranges, &values);
+                let fields = query_fields(kind_of(query));
+                self.meet_all(&ASKED, &layout::values(fields, query, BODY));
             }
             Records::Checkpoint => {}
             Records::Page(day) if outcome.number == 0 => self.note_page(request, *day),
@@ -140,7 +144,7 @@ impl Coverage {
         self.meet(Range::OwnSeat, own.seat);
         self.meet(Range::OwnLife, own.life);
         self.meet(Range::Voted, u32::from(own.vote.is_some()));
-        self.meet(Range::Misses, own.misses);
+        self.meet_all(&OWN_MISSES, &own.misses.map(u32::from));
     }
 
     /// A page that was given.
@@ -159,7 +163,8 @@ impl Coverage {
         self.meet_all(&[Range::PageLines, Range::PageDay], &[lines, day]);
         self.meet(Range::PageDayBack, u32::from(day < state.day));
         self.meet(Range::PageHalted, u32::from(own.is_halted(&state)));
-        self.meet(Range::PageMisses, own.misses);
+        let most = own.misses.into_iter().max();
+        self.meet(Range::PageMisses, most.unwrap_or_default());
         for row in &state.logins {
             self.note_line(row, t, age > limit);
         }

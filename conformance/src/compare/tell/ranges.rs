@@ -6,7 +6,7 @@ use crate::layout::{
     Field, ACTIONS, CHECKPOINT, CYCLE_AND_DAY, HELD_LIFE, KIND, LIFE, LOGIN, LOGINS,
 };
 use crate::layout::{
-    MASKS, MISSES, PROPOSALS, QUERY, ROW_COUNT, SEAT, SEATS, STANDING, SUBJECT_KIND,
+    DOOR, DOORS, MASKS, MISSES, PROPOSALS, QUERY, ROW_COUNT, SEAT, SEATS, STANDING, SUBJECT_KIND,
 };
 
 macro_rules! ranges {
@@ -50,7 +50,10 @@ ranges! {
     OwnSeat of(SEAT), "own seat";
     OwnLife of(HELD_LIFE), "own life";
     Voted of(VOTED), "own vote";
-    Misses of(MISSES), "own misses";
+    Misses0 of(MISSES), "own misses at door 0";
+    Misses1 of(MISSES), "own misses at door 1";
+    Misses2 of(MISSES), "own misses at door 2";
+    Misses3 of(MISSES), "own misses at door 3";
     StartSeat of(SEAT), "start: seat";
     StartLife of(LIFE), "start: life";
     Kind of(KIND), "announcement: kind";
@@ -64,6 +67,7 @@ ranges! {
     AskedLogin of(QUERY[0]), "query: login";
     AskedDay of(QUERY[1]), "query: day";
     AskedRight of(QUERY[2]), "query: right";
+    AskedDoor of(DOOR), "query: door";
     Subject of(SUBJECT_KIND), "propose: subject kind";
     CancelledCycle argument(2, 0), "cancel: cycle";
     PresentsSeat argument(3, 0), "presents: seat";
@@ -98,7 +102,7 @@ ranges! {
     PageEnded (0, 1), "page: days of t after an end day";
     PageSilentEnded (0, 1), "page: silent, and t after an end day";
     PageHalted (0, 1), "page: own seat retired";
-    PageMisses of(MISSES), "page: own misses";
+    PageMisses of(MISSES), "page: own misses at the door with the most";
     PageLogin of(LOGIN[0]), "page: login";
     PageRights (1, 16), "page: rights held";
     PageEnd of(LOGIN[1]), "page: end day";
@@ -117,6 +121,22 @@ pub const HEAD: [Range; 7] = [
     Range::Margin,
     Range::Least,
     Range::Silence,
+];
+
+/// By door.
+pub const OWN_MISSES: [Range; DOORS] = [
+    Range::Misses0,
+    Range::Misses1,
+    Range::Misses2,
+    Range::Misses3,
+];
+
+/// The ranges of a query's fields, of which the last is not in every query.
+pub const ASKED: [Range; 4] = [
+    Range::AskedLogin,
+    Range::AskedDay,
+    Range::AskedRight,
+    Range::AskedDoor,
 ];
 
 /// The ranges of the arguments of an announcement, by kind. Those of the other kinds have no end

@@ -94,7 +94,8 @@ fn held(event: &Event) -> String {
     match (StateFields::read(image), OwnFields::read(image)) {
         (Some(state), Some(own)) => {
             let StateFields { cycle, day, .. } = state;
-            format!(", cycle {cycle}, day {day}, misses {}", own.misses)
+            let misses = own.misses.map(|count| count.to_string()).join(" ");
+            format!(", cycle {cycle}, day {day}, misses {misses}")
         }
         (Some(state), None) => format!(", checkpoint of cycle {}", state.cycle),
         _ => String::new(),

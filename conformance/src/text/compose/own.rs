@@ -1,8 +1,8 @@
 //! The own part of an image: a line `own`, and a line `voted` below it if the node voted.
 
 use super::words::{Lines, Parse, Place, Words};
-use super::{announcement, values};
-use crate::layout::{ANNOUNCEMENT_SIZE, CHECKPOINT_SIZE, MISSES, OWN};
+use super::{announcement, push, values};
+use crate::layout::{ANNOUNCEMENT_SIZE, CHECKPOINT_SIZE, DOORS, MISSES, OWN};
 
 /// An own part comes behind the 1,108 bytes of a checkpoint, well formed or not.
 pub fn require_checkpoint(place: Place, above: usize) -> Parse<()> {
@@ -18,7 +18,7 @@ pub fn require_checkpoint(place: Place, above: usize) -> Parse<()> {
 /// What follows `own`, and the vote on the line below it. Nothing follows an image.
 pub fn compose(line: &mut Words, lines: &mut Lines) -> Parse<Vec<u8>> {
     let mut out = values(line, &OWN)?;
-    let misses = values(line, &[MISSES])?;
+    let misses = misses(line)?;
     line.finish()?;
     match lines.next_if(|line| line.begins_with(&["voted"])) {
         None => out.extend([0; 1 + ANNOUNCEMENT_SIZE]),
@@ -35,4 +35,21 @@ pub fn compose(line: &mut Words, lines: &mut Lines) -> Parse<Vec<u8>> {
         Some(word) => Err(word.place.error("an image ends with its own part")),
         None => Ok(out),
     }
+}
+
+/// The misses of doors 0 to 3; those that are left out are 0.
+fn misses(line: &mut Words) -> Parse<Vec<u8>> {
+    let mut counts = values(line, &[MISSES])?;
+    while counts.len() < DOORS {
+        let Some(word) = line.next_number() else {
+            break;
+        };
+        push(
+            &mut counts,
+            &MISSES,
+            word.number(MISSES.name, MISSES.most())?,
+        );
+    }
+    counts.resize(DOORS, 0);
+    Ok(counts)
 }

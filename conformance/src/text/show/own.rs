@@ -2,7 +2,7 @@
 
 use super::bytes::{malformed, Bytes, Malformed, Read};
 use super::records::announcement;
-use crate::layout::{number_at, BODY, CHECKPOINT_SIZE, MISSES, OWN, SEATS, VOTED};
+use crate::layout::{number_at, ALL_MISSES, BODY, CHECKPOINT_SIZE, OWN, SEATS, VOTED};
 use std::ops::Range;
 
 /// Where the vote stands in the own part.
@@ -10,7 +10,8 @@ const VOTE: Range<usize> =
     crate::layout::VOTE.start - CHECKPOINT_SIZE..crate::layout::VOTE.end - CHECKPOINT_SIZE;
 
 /// "seat 1, life 4 (at least 1), voted flag 1 (0 or 1), voted announcement 24 (zero if none, else
-/// well formed and of this cycle), misses 1. The seat isn't free."
+/// well formed and of this cycle), misses 1. The seat isn't free."; "the counts of doors 1 to 3"
+/// follow (request A5).
 pub fn own(checkpoint: &[u8], part: &[u8]) -> Read<String> {
     let mut bytes = Bytes::new(part, 0);
     let mut text = "own".to_string();
@@ -27,7 +28,7 @@ pub fn own(checkpoint: &[u8], part: &[u8]) -> Read<String> {
         bytes.unused(VOTE.end)?;
     }
     bytes.at = VOTE.end;
-    bytes.fields(&[MISSES], &mut text)?;
+    bytes.fields(&ALL_MISSES, &mut text)?;
     Ok(text + "\n" + &vote)
 }
 

@@ -4,7 +4,7 @@ use super::{cases, compose, first_checkpoint, show};
 use crate::paper::{start, Answer};
 use crate::text::show_image;
 
-/// An image of the second implementation: after a vote and two bad queries.
+/// An image of the second implementation: after a vote and three bad queries at two doors.
 fn voted() -> Vec<u8> {
     let bytes = |text: &str| compose(text).unwrap();
     let first = bytes(&first_checkpoint());
@@ -15,13 +15,15 @@ fn voted() -> Vec<u8> {
     let query = bytes("query login 777 day 100 right 0");
     assert_eq!(node.query(&query), Answer::No(19));
     assert_eq!(node.query(&query), Answer::No(19));
+    let at_door_3 = bytes("query login 777 day 100 right 0 door 3");
+    assert_eq!(node.query(&at_door_3), Answer::No(19));
     node.image()
 }
 
 #[test]
 fn an_image_of_the_second_implementation() {
     let expected = first_checkpoint()
-        + "own seat 0 life 1 misses 2\n"
+        + "own seat 0 life 1 misses 2 0 0 1\n"
         + "  voted announce cycle 1 day 101 propose minima m 0 k 3 S 40\n";
     let image = voted();
     for shown in [show(&image), show_image(&image)] {
@@ -33,10 +35,23 @@ fn an_image_of_the_second_implementation() {
 
 #[test]
 fn an_image_without_a_vote() {
-    let text = first_checkpoint() + "own seat 2 life 4294967295 misses 10\n";
+    let text = first_checkpoint() + "own seat 2 life 4294967295 misses 10 9 0 1\n";
     let image = compose(&text).unwrap();
-    assert_eq!(image.len(), 1139);
+    assert_eq!(image.len(), 1142);
+    assert_eq!(image[1138..], [10, 9, 0, 1]);
     assert_eq!(show(&image).text, text);
+}
+
+#[test]
+fn misses_that_are_left_out_are_0() {
+    for (misses, counts) in [
+        ("4", [4, 0, 0, 0]),
+        ("4 3", [4, 3, 0, 0]),
+        ("4 3 2", [4, 3, 2, 0]),
+    ] {
+        let text = format!("{}own seat 0 life 1 misses {misses}", first_checkpoint());
+        assert_eq!(compose(&text).unwrap()[1138..], counts);
+    }
 }
 
 /// OwnFields parts that are malformed, and the comment that follows their bytes.
@@ -49,6 +64,12 @@ own seat 0 life 0 misses 0
   life 0 is below 1, at byte 1 of these, 1109
 own seat 0 life 1 misses 11
   misses 11 is not in 0 to 10, at byte 30 of these, 1138
+own seat 0 life 1 misses 10 11
+  misses 11 is not in 0 to 10, at byte 31 of these, 1139
+own seat 0 life 1 misses 10 10 11
+  misses 11 is not in 0 to 10, at byte 32 of these, 1140
+own seat 0 life 1 misses 0 0 0 255
+  misses 255 is not in 0 to 10, at byte 33 of these, 1141
 own seat 0 life 1 misses 0 / voted announce cycle 2 day 101 end login 5
   the vote is of cycle 2, the checkpoint of 1, at byte 10 of these, 1118
 own seat 0 life 1 misses 0 / voted announce cycle 1 day 101 remove seat 32
@@ -83,9 +104,15 @@ fn a_malformed_checkpoint_of_an_image() {
 #[test]
 fn images_of_other_sizes() {
     let image = voted();
-    for input in [&image[..1138], &[&image[..], &[0]].concat(), &[]] {
+    // 1,139 bytes are those of an image without the misses of doors 1 to 3.
+    for input in [
+        &image[..1139],
+        &image[..1141],
+        &[&image[..], &[0]].concat(),
+        &[],
+    ] {
         let shown = show_image(input);
-        let why = format!("# malformed: an image has 1139 bytes, not {}", input.len());
+        let why = format!("# malformed: an image has 1142 bytes, not {}", input.len());
         assert!(shown.text.contains(&why));
         assert!(shown.malformed);
         assert_eq!(compose(&shown.text).as_deref(), Ok(input));
@@ -94,16 +121,15 @@ fn images_of_other_sizes() {
 
 #[test]
 fn records_of_the_size_of_an_image() {
-    let text = first_checkpoint()
-        + "start seat 0 life 1\nstart seat 0 life 1\nquery login 501 day 120 right 0\n";
+    let sheet = "sheet level-1 level-2 rows\n";
+    let queries = "query login 501 day 120 right 0\nquery login 501 day 120 right 0 door 3\n";
+    let text = first_checkpoint() + sheet + queries;
     let input = compose(&text).unwrap();
-    assert_eq!(input.len(), 1139);
+    assert_eq!(input.len(), 1142);
     assert_eq!(show(&input).text, text);
-    let text = "start seat 0 life 1\n".to_string()
-        + &first_checkpoint()
-        + "start seat 0 life 1\nquery login 501 day 120 right 0\n";
+    let text = sheet.to_string() + &first_checkpoint() + queries;
     let input = compose(&text).unwrap();
-    assert_eq!(input.len(), 1139);
+    assert_eq!(input.len(), 1142);
     assert_eq!(show(&input).text, text);
     assert!(show_image(&input).malformed);
 }

@@ -11,6 +11,12 @@ start seat 32 life 1
   seat 32 is not in 0 to 31, at byte 4
 query login 1 day 1 right 16
   right 16 is not in 0 to 15, at byte 12
+query login 1 day 1 right 16 door 0
+  right 16 is not in 0 to 15, at byte 12
+query login 1 day 1 right 0 door 4
+  door 4 is not in 0 to 3, at byte 13
+query login 1 day 1 right 0 door 255
+  door 255 is not in 0 to 3, at byte 13
 announce cycle 1 day 2 presents seat 0 flag 2
   flag 2 is not in 0 to 1, at byte 13
 announce cycle 1 day 2 certify seat 0 life 0
@@ -51,6 +57,12 @@ bytes 02 00 08 01
   kind 264 is not that of a record, at byte 2
 bytes 03 00 13 00 00
   length 3 is not 7, at byte 0
+bytes 0c 00 14 00 f5 01 00 00 78 00 00 00 00 00
+  length 12 is not 11, at byte 0
+bytes 0b 00 15 00 f5 01 00 00 78 00 00 00 00
+  length 11 is not 12, at byte 0
+bytes 02 00 16 00
+  kind 22 is not that of a record, at byte 2
 bytes 04 00 12 00 01 00
   the bytes end within a field, at byte 6
 bytes 05 00 12 00 01 00 01

@@ -34,6 +34,14 @@ start seat 99999999999999999999 life 1
   12: seat 99999999999999999999 does not fit: 0 to 255
 query login 1 day 2 right 256
   27: right 256 does not fit: 0 to 255
+query login 1 day 2 right 0 door
+  33: the line ends: a number (door) is expected
+query login 1 day 2 right 0 door 256
+  34: door 256 does not fit: 0 to 255
+query login 1 day 2 door 0
+  21: `door` is not understood: `right` is expected
+query login 1 day 2 right 0 door 1 2
+  36: `2` is not understood: the end of the line is expected
 announce cycle 1 day 2
   23: the line ends: one of the nine actions (`records` lists them) is expected
 announce cycle 1 day 2 granted
@@ -130,6 +138,10 @@ own seat 0 life 1
   5:11: `rights` is not understood: `end` is expected
 own seat 0 life 1 misses 256
   5:26: misses 256 does not fit: 0 to 255
+own seat 0 life 1 misses 0 256
+  5:28: misses 256 does not fit: 0 to 255
+own seat 0 life 1 misses 0 0 0 0 0
+  5:34: `0` is not understood: the end of the line is expected
 own seat 0 life 1 misses 0 / voted start
   6:7: `start` is not understood: `announce` is expected
 own seat 0 life 1 misses 0 /  / start seat 0 life 1

@@ -5,8 +5,8 @@ use super::{compose, show};
 use crate::compare::fields::StateFields;
 use crate::compare::make::random::Random;
 use crate::compare::make::sheets::{any_aim, sheet};
-use crate::compare::make::{announcements, malformed, starts_queries, states};
-use crate::layout::framed;
+use crate::compare::make::{announcements, malformed, records as made, starts_queries, states};
+use crate::layout::{framed, DOOR, RIGHT};
 use crate::paper::Node;
 use crate::text::show_image;
 use crate::text::warnings::refusal;
@@ -34,6 +34,12 @@ fn records(rng: &mut Random, state: &StateFields) -> Vec<Vec<u8>> {
         announcement,
         sheet,
         starts_queries::query(rng, state),
+        made::door_query(
+            rng.any32(),
+            rng.any32(),
+            rng.of(&RIGHT) as u8,
+            rng.of(&DOOR) as u8,
+        ),
     ]
 }
 
@@ -63,7 +69,7 @@ fn damaged_records() {
     for _ in 0..4000 {
         let state = states::any_state(&mut rng);
         let mut records = records(&mut rng, &state);
-        let place = rng.below(5);
+        let place = rng.below(records.len());
         match place {
             1 => records[1] = malformed::checkpoint(&mut rng, &state),
             3 => malformed::sheet(&mut rng, &mut records[3]),

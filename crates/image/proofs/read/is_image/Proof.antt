@@ -1,8 +1,9 @@
 use Rattle.image.specs.Layout.{imageSize}
-use mathlib.Core.Path.{sym, _∙_}
+use mathlib.Core.Path.{sym, ap, _∙_}
 use denote.Ref.{now}
 use borrow.Author.Tests.{eq-eqb, ne-eqb}
-use Rattle.image.specs.Image.{isImage}
+use Rattle.verdicts.specs.Attempts.{areInRange}
+use Rattle.image.specs.Image.{decodeImage, isImage}
 use Rattle.image.proofs.OwnParts.{image-tested}
 use borrow.Author.Needs.{needs}
 use Rattle.image.proofs.read.is_image.Statement.{statement}
@@ -30,13 +31,22 @@ is-well-formed-own-requires c κs = search needs
 shared-slice-read-result : tie.Need-shared-slice-read-result
 shared-slice-read-result c = search needs
 
+counts-in-requires : tie.Need-counts-in-requires
+counts-in-requires c κs = search needs
+
+are-in-range-requires : tie.Need-are-in-range-requires
+are-in-range-requires c κs = search needs
+
 returns-2 : tie.Need-returns-2
+unfolding decodeImage
 returns-2 c =
-    let t = c .before .before in
+    let m = c .before .before in
+    let o = m .before in
+    let t = o .before in
     let k = t .before in
     let l = k .before .before in
-    sym (image-tested (now (l .before .before .args .b)) _ (l .if1 .left) (sym (k .is-checkpoint .ensures) ∙ t .if2 .taken)
-    (c .before .is-well-formed-own .ensures))
+    sym (image-tested (now (l .before .before .args .b)) _ _ (l .if1 .left) (sym (k .is-checkpoint .ensures) ∙ t .if2 .taken)
+    (o .is-well-formed-own .ensures) (c .are-in-range .ensures ∙ ap areInRange (m .counts-in .ensures)))
 
 returns-3 : tie.Need-returns-3
 unfolding isImage
@@ -54,6 +64,8 @@ is-image-spec =
     part-is-checkpoint-end
     is-checkpoint-requires
     is-well-formed-own-requires
+    counts-in-requires
     shared-slice-read-result
+    are-in-range-requires
     returns-2
     returns-3)

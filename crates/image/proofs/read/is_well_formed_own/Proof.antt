@@ -53,12 +53,9 @@ u32-at-requires c κs = search needs
 shared-slice-read-result : tie.Need-shared-slice-read-result
 shared-slice-read-result c = search needs
 
-shared-slice-read-result-2 : tie.Need-shared-slice-read-result-2
-shared-slice-read-result-2 c = search needs
-
 returns : tie.Need-returns
 returns c =
-    let life = c .before .before in
+    let life = c .before in
     let vote = life .before in
     let cycle = vote .before .before .before in
     let standing = cycle .before .before in
@@ -86,5 +83,4 @@ is-well-formed-own-spec =
     is-well-formed-vote-requires
     u32-at-requires
     shared-slice-read-result
-    shared-slice-read-result-2
     returns)

@@ -18,9 +18,12 @@ state-in-requires c κs = search needs
 own-in-requires : tie.Need-own-in-requires
 own-in-requires c κs = search needs
 
+counts-in-requires : tie.Need-counts-in-requires
+counts-in-requires c κs = search needs
+
 returns : tie.Need-returns
 unfolding decodeImage
-returns c = rw (c .own-in .ensures, c .before .state-in .ensures)
+returns c = rw (c .counts-in .ensures, c .before .own-in .ensures, c .before .before .state-in .ensures)
 
 pub node-in-spec : {M : Type 1} → statement M
 node-in-spec =
@@ -31,4 +34,5 @@ node-in-spec =
     part-state-in-end
     state-in-requires
     own-in-requires
+    counts-in-requires
     returns)

@@ -17,12 +17,9 @@ u32-at-requires c κs = search needs
 shared-slice-read-t7 : tie.Need-shared-slice-read-t7
 shared-slice-read-t7 c = search needs
 
-shared-slice-read-t10 : tie.Need-shared-slice-read-t10
-shared-slice-read-t10 c = search needs
-
 returns : tie.Need-returns
 returns c =
-    let l = c .before .before in
+    let l = c .before in
     let v = l .before .before in
     rw (l .u32-at .ensures, v .vote-at .ensures) (sym (own-at (now (v .before .before .args .b))))
 
@@ -34,5 +31,4 @@ own-in-spec =
     shared-slice-read-t4
     u32-at-requires
     shared-slice-read-t7
-    shared-slice-read-t10
     returns)

@@ -9,9 +9,12 @@ blank-state-requires c κs = search needs
 own-afresh-requires : tie.Need-own-afresh-requires
 own-afresh-requires c κs = search needs
 
+no-misses-requires : tie.Need-no-misses-requires
+no-misses-requires c κs = search needs
+
 returns : tie.Need-returns
 unfolding blankNode
-returns c = rw (c .own-afresh .ensures, c .before .blank-state .ensures)
+returns c = rw (c .no-misses .ensures, c .before .own-afresh .ensures, c .before .before .blank-state .ensures)
 
 pub blank-node-spec : {M : Type 1} → statement M
-blank-node-spec = tie.close (tie.spec blank-state-requires own-afresh-requires returns)
+blank-node-spec = tie.close (tie.spec blank-state-requires own-afresh-requires no-misses-requires returns)

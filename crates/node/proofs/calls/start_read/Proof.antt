@@ -19,13 +19,28 @@ returns c =
 own-afresh-requires : tie.Need-own-afresh-requires
 own-afresh-requires c κs = search needs
 
+no-misses-requires : tie.Need-no-misses-requires
+no-misses-requires c κs = search needs
+
 returns-2 : tie.Need-returns-2
 unfolding startRead
 returns-2 c =
-    let refusal = c .before .before .start-refusal in
-    rw (← refusal .ensures, eq-eqb (refusal .result) 0 (c .before .if1 .left), ← c .own-afresh .ensures)
+    let accepted = c .before .before in
+    let refusal = accepted .before .start-refusal in
+    rw (
+      ← refusal .ensures,
+      eq-eqb (refusal .result) 0 (accepted .if1 .left),
+      ← c .before .own-afresh .ensures,
+      ← c .no-misses .ensures,
+    )
 
 pub start-read-spec : {M : Type 1} → statement M
 start-read-spec =
     tie.close
-    (tie.spec start-refusal-requires refuse-start-requires returns own-afresh-requires returns-2)
+    (tie.spec
+    start-refusal-requires
+    refuse-start-requires
+    returns
+    own-afresh-requires
+    no-misses-requires
+    returns-2)

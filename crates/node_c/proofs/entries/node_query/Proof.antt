@@ -42,7 +42,7 @@ part-hand-on-start : tie.Need-part-hand-on-start
 part-hand-on-start c = search needs
 
 part-hand-on-end : tie.Need-part-hand-on-end
-part-hand-on-end c = omega (arith, image-size _ (accepted (c .before .before .before)))
+part-hand-on-end c = omega (arith, image-size _ (accepted (c .before .before .before .before)))
 
 query-number-requires : tie.Need-query-number-requires
 query-number-requires c κs = search needs
@@ -57,7 +57,7 @@ returns : tie.Need-returns
 unfolding nodeQuery
 returns c =
     let k = c .before .before .before .before in
-    let q = k .before .before .before in
+    let q = k .before .before .before .before in
     rw (on-image _ _ _ (accepted (q .before .before)), ← q .before .node-in .ensures, ← q .query .ensures, ← k .query-number .ensures)
     (handed-on _ _ _ (λ _. kept q) _ _ (c .before .before .hand-on .ensures))
 

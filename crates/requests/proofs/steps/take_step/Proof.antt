@@ -51,38 +51,45 @@ returns-3 c =
     let none = sym (c .before .before .is-none .ensures) ∙ c .before .if2 .taken in
     rw (front, ne-eqb _ _ (branch .if1 .left), none, c .cut2 .ensures) refl
 
+is-query-requires : tie.Need-is-query-requires
+is-query-requires c κs = search needs
+
 step-query-requires : tie.Need-step-query-requires
 step-query-requires c κs =
-    let b = c .before .before .before .before .before in
+    let b = c .before .before .before .before .before .before in
     frame-fits _ _ _ (sym (b .before .before .frame .ensures) ∙ b .front .given .1)
 
 returns-4 : tie.Need-returns-4
 unfolding stepOf
 returns-4 c =
-    let tested = c .before .before .before in
+    let tested = c .before .before .before .before in
     let branch = tested .before in
-    let b = c .before .before .before .before .before .before in
+    let b = branch .before .before in
     let front = sym (b .before .before .frame .ensures) ∙ b .front .given .1 in
-    let some = sym (tested .is-none .ensures) ∙ c .before .before .if2 .left in
-    rw (front, ne-eqb _ _ (branch .if1 .left), some, eq-eqb _ _ (c .before .if3 .taken), c .step-query .ensures) refl
+    let some = sym (tested .is-none .ensures) ∙ c .before .before .before .if2 .left in
+    let kind = sym (c .before .before .is-query .ensures) ∙ c .before .if3 .taken in
+    rw (front, ne-eqb _ _ (branch .if1 .left), some, kind, c .step-query .ensures) refl
 
 is-announcement-requires : tie.Need-is-announcement-requires
 is-announcement-requires c κs = search needs
 
 step-deliver-requires : tie.Need-step-deliver-requires
 step-deliver-requires c κs =
-    let b = c .before .before .before .before .before .before .before in
+    let b = c .before .before .before .before .before .before .before .before in
     frame-fits _ _ _ (sym (b .before .before .frame .ensures) ∙ b .front .given .1)
 
 returns-5 : tie.Need-returns-5
 unfolding stepOf
 returns-5 c =
     let a = c .before .before .before in
-    let b = a .before .before .before .before .before in
+    let tested = a .before .before .before in
+    let branch = tested .before in
+    let b = branch .before .before in
     let front = sym (b .before .before .frame .ensures) ∙ b .front .given .1 in
-    let some = sym (a .before .before .is-none .ensures) ∙ a .before .if2 .left in
+    let some = sym (tested .is-none .ensures) ∙ a .before .before .if2 .left in
+    let other = sym (a .before .is-query .ensures) ∙ a .if3 .left in
     let kind = sym (c .before .before .is-announcement .ensures) ∙ c .before .if4 .taken in
-    rw (front, ne-eqb _ _ (a .before .before .before .if1 .left), some, ne-eqb _ _ (a .if3 .left), kind, c .step-deliver .ensures) refl
+    rw (front, ne-eqb _ _ (branch .if1 .left), some, other, kind, c .step-deliver .ensures) refl
 
 cut-requires-3 : tie.Need-cut-requires-3
 cut-requires-3 c κs = search needs
@@ -91,11 +98,14 @@ returns-6 : tie.Need-returns-6
 unfolding stepOf
 returns-6 c =
     let a = c .before .before .before in
-    let b = a .before .before .before .before .before in
+    let tested = a .before .before .before in
+    let branch = tested .before in
+    let b = branch .before .before in
     let front = sym (b .before .before .frame .ensures) ∙ b .front .given .1 in
-    let some = sym (a .before .before .is-none .ensures) ∙ a .before .if2 .left in
+    let some = sym (tested .is-none .ensures) ∙ a .before .before .if2 .left in
+    let other = sym (a .before .is-query .ensures) ∙ a .if3 .left in
     let kind = sym (c .before .before .is-announcement .ensures) ∙ c .before .if4 .left in
-    rw (front, ne-eqb _ _ (a .before .before .before .if1 .left), some, ne-eqb _ _ (a .if3 .left), kind, c .cut3 .ensures) refl
+    rw (front, ne-eqb _ _ (branch .if1 .left), some, other, kind, c .cut3 .ensures) refl
 
 pub take-step-spec : {M : Type 1} → statement M
 take-step-spec =
@@ -111,6 +121,7 @@ take-step-spec =
     is-none-requires
     cut-requires-2
     returns-3
+    is-query-requires
     step-query-requires
     returns-4
     is-announcement-requires

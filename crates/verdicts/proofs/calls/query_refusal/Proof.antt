@@ -29,7 +29,10 @@ returns-2 : tie.Need-returns-2
 unfolding queryRefusal
 returns-2 c =
     let running = c .before .before in
-    rw (is-halted (running .before) ∙ running .if1 .left, le-leb _ _ (c .if2 .taken))
+    rw (is-halted (running .before) ∙ running .if1 .left, ← c .before .misses-at .ensures, le-leb _ _ (c .if2 .taken))
+
+misses-at-requires : tie.Need-misses-at-requires
+misses-at-requires c κs = search needs
 
 is-silent-requires : tie.Need-is-silent-requires
 is-silent-requires c κs = search needs
@@ -41,6 +44,7 @@ returns-3 c =
     let running = unlocked .before .before in
     rw (
       is-halted (running .before) ∙ running .if1 .left,
+      ← unlocked .before .misses-at .ensures,
       lt-leb _ _ (unlocked .if2 .left),
       ← running .before .before .before .later .ensures,
       sym (c .before .is-silent .ensures) ∙ c .if3 .taken,
@@ -57,6 +61,7 @@ returns-4 c =
     let running = unlocked .before .before in
     rw (
       is-halted (running .before) ∙ running .if1 .left,
+      ← unlocked .before .misses-at .ensures,
       lt-leb _ _ (unlocked .if2 .left),
       ← running .before .before .before .later .ensures,
       sym (heard .before .is-silent .ensures) ∙ heard .if3 .left,
@@ -70,6 +75,7 @@ query-refusal-spec =
     held-seat-requires
     is-halted-requires
     returns
+    misses-at-requires
     returns-2
     is-silent-requires
     returns-3

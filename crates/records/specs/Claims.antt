@@ -1,7 +1,7 @@
 -- What reading a record tells, and what a count of seats tells.
 use mathlib.Core.Path.{_≡_}
 use mathlib.Core.Bool.{true}
-use mathlib.Core.List.{List, List·Memᴰ}
+use mathlib.Core.List.{List, [], _∷_, _++_, List·Memᴰ}
 use Prim.Native.Nat.{ℕ, _+_, _*_, _^_, _≤_, _<_}
 use lib.ListN.{length}
 use Rattle.binary.specs.Number.{Bytes}
@@ -17,10 +17,10 @@ use Rattle.records.specs.declared.Announcement.{Announcement}
 use Rattle.records.specs.declared.AnnouncementRead.the-variants as A
 use Rattle.records.specs.declared.Start.{Start}
 use Rattle.records.specs.declared.StartRead.the-variants as S
-use Rattle.records.specs.Layout.{announcementSize, rowSize, mostRows}
+use Rattle.records.specs.Layout.{announcementSize, rowSize, mostRows, kindQuery, queryLength, kindDoorQuery, doorQueryLength}
 use Rattle.records.specs.Announcement.{readAnnouncement, announcementBytes}
 use Rattle.records.specs.Sheet.{Row, row, level1, level2, rowsOf, isSheet, sheetOf, counts, countedSeats, countedOnBoth}
-use Rattle.records.specs.StartQuery.{readStart}
+use Rattle.records.specs.StartQuery.{readStart, readQuery}
 
 -- the ranges of each kind's arguments
 abbrev pub ActionInRange : Action → Type 0
@@ -51,6 +51,11 @@ AnnouncementsReadBack = (a : Announcement) → AnnouncementInRange a → readAnn
 -- A start record that is read is within its ranges.
 abbrev pub StartsInRange : Type 0
 StartsInRange = (b : List ℕ) (x : Start) → Bytes b → readStart b ≡ S.Read x → (x .seat < seatCount) × (x .life < 2 ^ 32)
+
+-- "kind 20 means door 0": it is read as the record of kind 21 that has the same login, day and right, and door 0.
+abbrev pub Kind20IsDoor0 : Type 0
+Kind20IsDoor0 = (fields : List ℕ) → length fields ≡ 9
+    → readQuery (queryLength ∷ 0 ∷ kindQuery ∷ 0 ∷ fields) ≡ readQuery (doorQueryLength ∷ 0 ∷ kindDoorQuery ∷ 0 ∷ (fields ++ 0 ∷ []))
 
 -- ---- sheets
 

@@ -82,13 +82,18 @@ locked-by m w runs qb q rq e = rw (rq, w .counts, ne-eqb _ _ runs, le-leb mostMi
 
 -- ---- a host
 
-module _ (h : Host) (d : ℕ) where
-  -- what a query is answered, of the node that the host holds
-  answer-at : (w : Cluster) (n : Node) → nodeAt w h ≡ some n → WellFormedNode n → (qb out : List ℕ)
-      → run w (query h qb out) .answer ≡ some (numberAt h out (queryNumber (queryOf n qb .answer)))
-  answer-at w n e f qb out =
-      ap (λ (x : Outcome). x .answer) (run-query w h qb out ∙ on-some w h (asked qb) out n e (query-keeps-well-formed n qb f))
+-- what a query is answered, of the node that the host holds
+answer-at : (w : Cluster) (h : Host) (n : Node) → nodeAt w h ≡ some n → WellFormedNode n → (qb out : List ℕ)
+    → run w (query h qb out) .answer ≡ some (numberAt h out (queryNumber (queryOf n qb .answer)))
+answer-at w h n e f qb out =
+    ap (λ (x : Outcome). x .answer) (run-query w h qb out ∙ on-some w h (asked qb) out n e (query-keeps-well-formed n qb f))
 
+-- 17 is not hidden by 22
+in-room : (h : Host) (out : List ℕ) → HasRoom h out → numberAt h out 17 ≡ 17
+in-room (byValue i) out r = refl
+in-room (throughC i) out r = rw (le-leb imageSize (length out) r)
+
+module _ (h : Host) (d : ℕ) where
   module _ (w : Cluster) (n : Node) (e : nodeAt w h ≡ some n) (f : WellFormedNode n) where
     -- a miss at the host is one of its node, which is left there
     heard : (c : Call) (a : AddsMissAt h d w c)
@@ -130,10 +135,6 @@ module _ (h : Host) (d : ℕ) where
   running w n e f [] ten a = absurd (omega arith)
   running w n e f (c ∷ cs) ten a = missed-running n (a .0 .bytes) (heard w n e f c (a .0) .0)
 
-in-room : (h : Host) (out : List ℕ) → HasRoom h out → numberAt h out 17 ≡ 17
-in-room (byValue i) out r = refl
-in-room (throughC i) out r = rw (le-leb imageSize (length out) r)
-
 pub ten-lock-one : TenLockOne
 ten-lock-one w h n e f d l z calls ten a =
     let v = runAll w calls in
@@ -145,11 +146,11 @@ ten-lock-one w h n e f d l z calls ten a =
     record {
       locked = λ qb out q rq here room.
           let no = locked-by m (x .fine) runs qb q rq (ap (λ (i : ℕ). missesAt i (m .counts)) here ∙ full) in
-          answer-at h d v m (t .1) (x .fine) qb out ∙ ap (λ (y : QueryAnswer). some (numberAt h out (queryNumber y))) no
+          answer-at v h m (t .1) (x .fine) qb out ∙ ap (λ (y : QueryAnswer). some (numberAt h out (queryNumber y))) no
           ∙ ap some (in-room h out room);
       others = λ qb out q rq other.
           let s : SameAt (q .door) m n = record { state = x .state; own = x .own; misses = x .others (q .door) other } in
           let same = query-same (q .door) (x .fine) f s qb (rw rq (ap not (eq-eqb (q .door) (q .door) refl))) .0 in
-          answer-at h d v m (t .1) (x .fine) qb out ∙ ap (λ (y : QueryAnswer). some (numberAt h out (queryNumber y))) same
-          ∙ sym (answer-at h d w n e f qb out);
+          answer-at v h m (t .1) (x .fine) qb out ∙ ap (λ (y : QueryAnswer). some (numberAt h out (queryNumber y))) same
+          ∙ sym (answer-at w h n e f qb out);
     }

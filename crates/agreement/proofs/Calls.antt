@@ -54,12 +54,6 @@ run-query w (throughC i) qb out = refl
 
 -- ---- what a call for C returns
 
--- a number that is 0 is that of the call by value
-returned-zero : (r : HandedBack) (out : List ℕ) (x : Returned) → Returning r out x → x .number ≡ 0 → r .number ≡ 0
-returned-zero r out x (no-room l a b e) z = let q : x .number ≡ 22 = ap (λ (y : Returned). y .number) e in absurd (omega arith)
-returned-zero r out x (writes l w e) z = sym (ap (λ (y : Returned). y .number) e) ∙ z
-returned-zero r out x (leaves n p e) z = sym (ap (λ (y : Returned). y .number) e) ∙ z
-
 -- the front of a slice that bytes were written to
 pub front : (bytes out : List ℕ) (n : ℕ) → length bytes ≡ n → take n (overwrite bytes out) ≡ bytes
 unfolding overwrite
@@ -74,6 +68,16 @@ pub not-written : {k : ℕ} → Writes k → (k ≢ 1) × (k ≢ 22)
 not-written (inl e) = (λ z. omega arith, λ z. omega arith)
 not-written (inr (inl e)) = (λ z. omega arith, λ z. omega arith)
 not-written (inr (inr m)) = (λ z. omega arith, λ z. omega arith)
+
+-- a call that returns a number with which an image is written handed back that number, and writes the image of its node
+pub written-return : (r : HandedBack) (out : List ℕ) → Writes (return r out .number)
+    → return r out ≡ record { number = r .number; slice = overwrite (imageBytes (r .node)) out }
+written-return r out = at (return r out) (calls-return r out)
+  where
+    at : (x : Returned) → Returning r out x → Writes (x .number) → x ≡ record { number = r .number; slice = overwrite (imageBytes (r .node)) out }
+    at x (no-room l a b e) v = absurd (not-written v .1 (ap (λ (y : Returned). y .number) e))
+    at x (writes l y e) v = e
+    at x (leaves n p e) v = absurd (n (subst Writes (ap (λ (y : Returned). y .number) e) v))
 
 module _ (w : Cluster) (i : ℕ) (r : HandedBack) (out : List ℕ) (fine : Writes (r .number) → WellFormedNode (r .node)) where
   -- with these bytes kept or not
@@ -97,12 +101,13 @@ module _ (w : Cluster) (i : ℕ) (r : HandedBack) (out : List ℕ) (fine : Write
   by-returning x (leaves n p e) = inl
       (ap (λ (y : Returned). keepImage w i y .after) e ∙ ap (λ (b : Bool). held b (take imageSize out)) (leaves-to (r .number) n))
 
-  -- a call that returns a number with which an image is written handed back that number
-  returned-written : (x : Returned) → Returning r out x → (k : ℕ) → Writes k → x .number ≡ k → (r .number ≡ k) ×
-      (keepImage w i x ≡ answers (r .number) (putImage w i (imageBytes (r .node))))
-  returned-written x (no-room l a b e) k y z = absurd (not-written y .1 (sym z ∙ ap (λ (y : Returned). y .number) e))
-  returned-written x (writes l v e) k y z = (sym (ap (λ (y : Returned). y .number) e) ∙ z, written x v e)
-  returned-written x (leaves n p e) k y z = absurd (n (subst Writes (sym z ∙ ap (λ (y : Returned). y .number) e) y))
+  -- a call that returns such a number leaves it
+  returned-written : (k : ℕ) → Writes k → return r out .number ≡ k
+      → (r .number ≡ k) × (keepImage w i (return r out) ≡ answers (r .number) (putImage w i (imageBytes (r .node))))
+  returned-written k v z =
+      let e = written-return r out (subst Writes (sym z) v) in
+      let same : r .number ≡ k = sym (ap (λ (y : Returned). y .number) e) ∙ z in
+      (same, written (return r out) (subst Writes (sym same) v) e)
 
   pub kept : Kept w i r (keepImage w i (return r out))
   kept = by-returning (return r out) (calls-return r out)
@@ -134,8 +139,9 @@ heard w (throughC i) f out n e a = go (w .images i) e a
     go : (o : Option (List ℕ)) → imageNode o ≡ some n → onHeldImage w i (λ b. onImage f b out) o .answer ≡ some 0 → f n .number ≡ 0
     go none e a = clash (cc)
     go (some b) e a =
-        returned-zero (f n) out (return (f n) out) (calls-return (f n) out)
-        (ap (λ (r : Returned). r .number) (sym (on-image f b out n e)) ∙ Option·some-injective (onImage f b out .number) 0 a)
+        let said : return (f n) out .number ≡ 0 =
+        ap (λ (r : Returned). r .number) (sym (on-image f b out n e)) ∙ Option·some-injective (onImage f b out .number) 0 a in
+        sym (ap (λ (r : Returned). r .number) (written-return (f n) out (inl said))) ∙ said
 
 -- the host holds a node, and the call leaves what f hands back of it, with its number as the answer
 pub record Left (w : Cluster) (h : Host) (f : Node → HandedBack) (x : Outcome) : Type 0 where
@@ -195,7 +201,7 @@ written-left w (throughC i) f out n fine e k y a = go (w .images i) e a
     go (some b) e a =
         let q = on-image f b out n e in
         let said = ap (λ (r : Returned). r .number) (sym q) ∙ Option·some-injective (onImage f b out .number) k a in
-        let t = returned-written w i (f n) out (λ v. fine) (return (f n) out) (calls-return (f n) out) k y said in
+        let t = returned-written w i (f n) out (λ v. fine) k y said in
         (t .0, ap (λ (r : Returned). keepImage w i r .after) q ∙ ap (λ (x : Outcome). x .after) (t .1))
 
 -- ---- start

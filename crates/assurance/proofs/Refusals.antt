@@ -44,7 +44,7 @@ use Rattle.node_c.specs.Claims.{Writes, Returning, no-room, writes, leaves, Pag
 use Rattle.node_c.proofs.Calls.{page-returns, calls-return, writes-to, leaves-to, image-ok}
 use Rattle.agreement.specs.History.{byValue, throughC, start, deliver, query, checkpoint, Cluster, Outcome, onNode, keepImage, onHeldImage}
 use Rattle.agreement.specs.History.{keepCheckpoint, checkpointNode, checkpointImage, run}
-use Rattle.agreement.proofs.Calls.{front, not-written}
+use Rattle.agreement.proofs.Calls.{front, not-written, written-return}
 use Rattle.assurance.specs.Refusals.{Refusal, AddsMiss, Unchanged, RefusalsChangeNothing, Counted, MissesAddOne, OpenClearsOne}
 use Rattle.assurance.specs.Refusals.{KeepsSlice, SlicesKept}
 use Rattle.assurance.proofs.Length.{missed-size}
@@ -122,17 +122,6 @@ returned-kept r out x (no-room l a b e) h m = ap (λ (y : Returned). y .slice) e
 returned-kept r out x (writes l v e) h m = absurd (no-image (x .number) h m (subst Writes (ap (λ (y : Returned). y .number) (sym e)) v))
 returned-kept r out x (leaves n p e) h m = ap (λ (y : Returned). y .slice) e
 
--- with a number that writes an image, the number is that of the call by value, and its node's image is written
-record Written (r : HandedBack) (out : List ℕ) (x : Returned) : Type 0 where
-  number : r .number ≡ x .number
-  slice : x .slice ≡ overwrite (imageBytes (r .node)) out
-
-returned-written : (r : HandedBack) (out : List ℕ) (x : Returned) → Returning r out x → Writes (x .number) → Written r out x
-returned-written r out x (no-room l a b e) m = absurd (not-written m .1 (ap (λ (y : Returned). y .number) e))
-returned-written r out x (writes l v e) m =
-    record { number = sym (ap (λ (y : Returned). y .number) e); slice = ap (λ (y : Returned). y .slice) e }
-returned-written r out x (leaves n p e) m = absurd (n (subst Writes (ap (λ (y : Returned). y .number) e) m))
-
 -- on an image
 image-kept : (f : Node → HandedBack) (image out : List ℕ) → Refusal (onImage f image out .number) → ¬ AddsMiss (onImage f image out .number)
     → onImage f image out .slice ≡ out
@@ -142,15 +131,23 @@ image-kept f image out =
     (λ e. returned-kept _ out _ (calls-return _ out))
     (λ e h m. refl)
 
+-- a number with which an image is written is that of the call by value, and its node's image is written
 record WrittenOn (f : Node → HandedBack) (image out : List ℕ) (x : Returned) : Type 0 where
   read : isImage image ≡ true
-  returned : Written (f (readImage image .node)) out x
+  number : f (readImage image .node) .number ≡ x .number
+  slice : x .slice ≡ overwrite (imageBytes (f (readImage image .node) .node)) out
 
 image-written : (f : Node → HandedBack) (image out : List ℕ) → Writes (onImage f image out .number) → WrittenOn f image out (onImage f image out)
 unfolding onImage
 image-written f image out =
     cond-cases (λ (x : Returned). Writes (x .number) → WrittenOn f image out x) (readImage image .ok)
-    (λ e m. record { read = sym (image-ok image) ∙ e; returned = returned-written _ out _ (calls-return _ out) m })
+    (λ e m.
+    let w = written-return (f (readImage image .node)) out m in
+    record {
+      read = sym (image-ok image) ∙ e;
+      number = sym (ap (λ (y : Returned). y .number) w);
+      slice = ap (λ (y : Returned). y .slice) w;
+    })
     (λ e m. absurd (not-written m .0 refl))
 
 -- a miss writes an image
@@ -161,7 +158,7 @@ miss-writes m = inr (inr m)
 counted-slice : (image qb out : List ℕ) (f : ℕ → Node → Node) (q : Query) → WrittenOn (asked qb) image out (onImage (asked qb) image out)
     → asked qb (readImage image .node) .node ≡ f (q .door) (readImage image .node)
     → onImage (asked qb) image out .slice ≡ overwrite (imageBytes (f (q .door) (readImage image .node))) out
-counted-slice image qb out f q x e = x .returned .slice ∙ ap (λ (n : Node). overwrite (imageBytes n) out) e
+counted-slice image qb out f q x e = x .slice ∙ ap (λ (n : Node). overwrite (imageBytes n) out) e
 
 -- a miss on an image is one by value
 image-misses : (image qb out : List ℕ) → AddsMiss (onImage (asked qb) image out .number)
@@ -169,7 +166,7 @@ image-misses : (image qb out : List ℕ) → AddsMiss (onImage (asked qb) image 
 image-misses image qb out m =
     let n = readImage image .node in
     let x = image-written (asked qb) image out (miss-writes m) in
-    query-misses n qb _ (query-comes-to n qb) (subst AddsMiss (sym (x .returned .number)) m)
+    query-misses n qb _ (query-comes-to n qb) (subst AddsMiss (sym (x .number)) m)
 
 -- a refused checkpoint
 slice-by : (bytes out : List ℕ) (b : Bool) → cond b Given (Refused 22) ≢ Given → cond b bytes out ≡ out
@@ -203,14 +200,14 @@ page-kept n d out k = by (pageFits n out)
 -- nor of one through C
 image-start-adds-none : (cb sb out : List ℕ) → ¬ AddsMiss (return (started cb sb) out .number)
 image-start-adds-none cb sb out m =
-    let x = returned-written _ out _ (calls-return (started cb sb) out) (miss-writes m) in
-    start-adds-none cb sb _ (start-comes-to cb sb) (subst AddsMiss (sym (x .number)) m)
+    let w = written-return (started cb sb) out (miss-writes m) in
+    start-adds-none cb sb _ (start-comes-to cb sb) (subst AddsMiss (ap (λ (y : Returned). y .number) w) m)
 
 image-deliver-adds-none : (image ab sb out : List ℕ) → ¬ AddsMiss (onImage (delivered ab sb) image out .number)
 image-deliver-adds-none image ab sb out m =
     let n = readImage image .node in
     let x = image-written (delivered ab sb) image out (miss-writes m) in
-    deliver-adds-none n ab sb _ (deliver-comes-to n ab sb) (subst AddsMiss (sym (x .returned .number)) m)
+    deliver-adds-none n ab sb _ (deliver-comes-to n ab sb) (subst AddsMiss (sym (x .number)) m)
 
 pub slices-kept : SlicesKept
 unfolding nodeStart nodeDeliver nodeQuery nodeRosterImport nodeRosterExport
@@ -379,7 +376,7 @@ opened-image w i qb out (some b) e a =
     let z = Option·some-injective (onImage (asked qb) b out .number) 0 a in
     let n = readImage b .node in
     let x = image-written (asked qb) b out (inl z) in
-    counted-image w i qb out (λ door n. 0) b e (inl z) (query-opens n qb _ (query-comes-to n qb) (x .returned .number ∙ z))
+    counted-image w i qb out (λ door n. 0) b e (inl z) (query-opens n qb _ (query-comes-to n qb) (x .number ∙ z))
 
 -- a checkpoint is given, or refused by 1 or 22
 checkpoint-adds-none : (n : Node) (out : List ℕ) → ¬ AddsMiss (checkpointNumber (checkpointOf n out .answer))

@@ -5,12 +5,14 @@ use mathlib.Core.Bool.{true, and-eq-true-iff}
 use mathlib.Core.List.{List, [], _∷_}
 use Prim.Native.Nat.{ℕ, zero, suc, _+_, _^_, _≤_, _<_}
 use native.Mathlib.Omega.{arith}
-use lib.ListN.{length, set, replicate}
+use lib.ListN.{length, length-set, set, replicate}
 use borrow.Author.Tests.{eqb-false, eq-eqb, ne-eqb, leb-true, le-leb, ltb-true, lt-ltb, not-true}
 use Rattle.lists.specs.Fold.{all}
+use Rattle.lists.proofs.Every.{all-set}
 use Rattle.lists.proofs.Tests.{clash}
 use Rattle.binary.specs.Number.{Bytes}
 use Rattle.binary.specs.Codec.{byte, FitsRows}
+use Rattle.binary.proofs.Codec.{fits-each, fits-count, fits-rows}
 use Rattle.state.specs.declared.Cycle.{Cycle}
 use Rattle.state.specs.declared.State.{State}
 use Rattle.state.specs.Limits.{seatCount}
@@ -114,12 +116,7 @@ voted n ab a ra same long h w =
 
 -- a table of bytes fits its place with another byte in it
 set-fits : (k : ℕ) (l : List ℕ) (i m : ℕ) → m < 256 → FitsRows byte k l → FitsRows byte k (set l i m)
-unfolding FitsRows
-set-fits zero [] i m h f = f
-set-fits zero (x ∷ xs) i m h f = absurd f
-set-fits (suc k) [] i m h f = f
-set-fits (suc k) (x ∷ xs) zero m h f = (h, f .1)
-set-fits (suc k) (x ∷ xs) (suc i) m h f = (f .0, set-fits k xs i m h (f .1))
+set-fits k l i m h f = rw (length-set l i m ∙ fits-count byte k l f) at (fits-rows byte (all-set i (fits-each byte k l f) h))
 
 -- a node with another number of misses at a door
 missed : (n : Node) (door m : ℕ) → m ≤ mostMisses → WellFormedNode n → WellFormedNode (withCounts (withMisses door m (n .counts)) n)

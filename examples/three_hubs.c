@@ -1,6 +1,7 @@
 /* How firmware uses the node: three hubs are commissioned, grant a login by vote, answer queries
  * and end the login again; wrong entries lock one door of a hub and not the other; one hub is lost
- * and comes back from a checkpoint, under a new life, which votes once the park has voted a rejoin.
+ * and comes back from a checkpoint, under a new life, which votes once the park has voted a rejoin,
+ * two days after its proposal.
  *
  * The radio and the seal module are played by this program: what a hub votes for is put on the next
  * sheet as a row.
@@ -134,24 +135,40 @@ static void lose_and_restart(void) {
     step("hub 2 starts from it with a new vault, life 2", start_hub(2, 2, checkpoint),
          ACCESS_NODE_OK);
     step("it answers from the park's list", ask(2, 110), ACCESS_NODE_OK);
-    uint8_t rejoin[ACCESS_NODE_ANNOUNCEMENT_SIZE];
-    put(put(announce(rejoin, ACCESS_NODE_KIND_REJOIN, 2, 102), 2, 1), 2, 4);
-    step("it can't vote before a rejoin names its life", deliver(2, rejoin, 0),
+}
+
+/* The arguments of the rejoin, in its announcement and in the proposal: seat 2, life 2. */
+static void put_rejoin(uint8_t *at) {
+    put(put(at, 2, 1), 2, 4);
+}
+
+static void rejoin_by_vote(void) {
+    uint8_t propose[ACCESS_NODE_ANNOUNCEMENT_SIZE];
+    uint8_t *at = announce(propose, ACCESS_NODE_KIND_PROPOSE, 2, 102);
+    put_rejoin(put(at, ACCESS_NODE_KIND_REJOIN, 2));
+    step("it can't vote before a rejoin names its life", deliver(2, propose, 0),
          ACCESS_NODE_CANNOT_VOTE);
     for (int seat = 0; seat < HUBS; seat++)
-        step("each hub performs the rejoin that 0 and 1 voted for", deliver(seat, rejoin, 2),
+        step("each hub performs the proposal of that rejoin", deliver(seat, propose, 2),
              ACCESS_NODE_OK);
     step("which unlocks door 1 of hub 0", ask_at(1, 0, LOGIN, 110), ACCESS_NODE_OK);
+    uint8_t rejoin[ACCESS_NODE_ANNOUNCEMENT_SIZE];
+    put_rejoin(announce(rejoin, ACCESS_NODE_KIND_REJOIN, 3, 103));
+    step("one day later is too early for the rejoin", deliver(0, rejoin, 2),
+         ACCESS_NODE_NOT_NOTICED);
+    put_rejoin(announce(rejoin, ACCESS_NODE_KIND_REJOIN, 3, 104));
+    for (int seat = 0; seat < HUBS; seat++)
+        step("after two days each hub performs it", deliver(seat, rejoin, 2), ACCESS_NODE_OK);
 }
 
 static void end_by_vote(void) {
     uint8_t end[ACCESS_NODE_ANNOUNCEMENT_SIZE];
-    put(announce(end, ACCESS_NODE_KIND_END, 3, 103), LOGIN, 4);
+    put(announce(end, ACCESS_NODE_KIND_END, 4, 105), LOGIN, 4);
     step("hub 2 votes again, for the end of the login", deliver(2, end, 0), ACCESS_NODE_VOTED);
     step("hub 0 performs the end", deliver(0, end, 2), ACCESS_NODE_OK);
     step("it no longer lists the login", ask(0, 110), ACCESS_NODE_NOT_LISTED);
-    step("hub 1 has not heard of the end and still opens", ask(1, 132), ACCESS_NODE_OK);
-    step("but not for a day beyond the silence limit", ask(1, 134), ACCESS_NODE_SILENT);
+    step("hub 1 has not heard of the end and still opens", ask(1, 134), ACCESS_NODE_OK);
+    step("but not for a day beyond the silence limit", ask(1, 136), ACCESS_NODE_SILENT);
 }
 
 int main(void) {
@@ -162,6 +179,7 @@ int main(void) {
     grant_by_vote();
     lock_a_door();
     lose_and_restart();
+    rejoin_by_vote();
     end_by_vote();
     return 0;
 }

@@ -62,9 +62,12 @@ extern "C" {
  * node_roster_import and node_roster_export; nothing else changes in them. In edition 4 proposals
  * lapse after 60 days: no record changes, but the rules do. In edition 5 each door has its own
  * misses: a query of kind 21 names its door, and the image grows by 3 bytes; an image of 1,139
- * bytes, as earlier editions wrote it, is malformed. Checkpoints are the same in all. All nodes of
- * a park run under the same rules: those of editions 1 to 3, of edition 4, or of edition 5. */
-#define ACCESS_NODE_EDITION 5
+ * bytes, as earlier editions wrote it, is malformed. In edition 6 a rejoin needs a proposal, of
+ * subject kind 7: every checkpoint of an earlier edition is read as before, and so is an image of
+ * edition 5, but a checkpoint with such a proposal is malformed in the earlier ones. All nodes of a
+ * park run under the same rules: those of editions 1 to 3, of edition 4, of edition 5, or of
+ * edition 6. */
+#define ACCESS_NODE_EDITION 6
 
 /* Sizes of whole records. A sheet has 0 to ACCESS_NODE_MOST_ROWS rows. */
 #define ACCESS_NODE_CHECKPOINT_SIZE 1108
@@ -116,7 +119,7 @@ extern "C" {
 #define ACCESS_NODE_DAY_BACK 7       /* announced for a day before the agreed day */
 #define ACCESS_NODE_NOT_SIGNED 8     /* too few trustees of the level that the kind needs */
 #define ACCESS_NODE_SEAT_UNFIT 9     /* the seat's standing does not fit the kind or the start */
-#define ACCESS_NODE_NOT_NOTICED 10   /* no equal proposal announced 7 to 60 days before */
+#define ACCESS_NODE_NOT_NOTICED 10   /* no equal proposal 7 (rejoin: 2) to 60 days before */
 #define ACCESS_NODE_TABLE_FULL 11    /* no row left for a proposal or a login */
 #define ACCESS_NODE_QUORUM_LOST 12   /* fewer seats would be present than the quorum needs */
 #define ACCESS_NODE_NOT_FOUND 13     /* no such proposal, or a lapsed one; no such login to end */

@@ -1,7 +1,7 @@
-//! The records of document 01 and request A5 as one table: the fields of each in the order of their
-//! bytes, their sizes, places and ranges; the line of a page and that of a roster. What writes, shows
-//! and damages records takes them from here; the second implementation and the version for speed have
-//! their own.
+//! The records of document 01 and requests A5 and A6 as one table: the fields of each in the order of
+//! their bytes, their sizes, places and ranges; the line of a page and that of a roster. What writes,
+//! shows and damages records takes them from here; the second implementation and the version for speed
+//! have their own.
 
 /// How a field's value stands in the text.
 #[derive(Debug, Clone, Copy, PartialEq, Eq)]
@@ -33,7 +33,7 @@ impl Field {
     /// Values that fit and are outside the range: those next to it and the highest.
     pub fn outside(&self) -> Vec<u32> {
         let below = self.low.checked_sub(1);
-        let above = (self.high < self.most()).then_some([self.high + 1, self.most()]);
+        let above = (self.high < self.most()).then(|| [self.high + 1, self.most()]);
         below
             .into_iter()
             .chain(above.into_iter().flatten())
@@ -71,7 +71,8 @@ const fn unnamed(field: Field) -> Field {
 }
 
 pub const SEAT: Field = number("seat", 1, 0, 31);
-/// "life 0 in a row, start or rejoin" is well formed; the other lives are at least 1.
+/// "life 0 in a row, start or rejoin" is well formed, proposed or announced; the other lives are at
+/// least 1.
 pub const LIFE: Field = number("life", 4, 0, MAX);
 pub const HELD_LIFE: Field = number("life", 4, 1, MAX);
 const CYCLE: Field = number("cycle", 4, 0, MAX);
@@ -91,7 +92,8 @@ pub const STANDING: Field = number("standing", 1, 0, 3);
 pub const VOTED: Field = number("voted flag", 1, 0, 1);
 pub const ROW_COUNT: Field = number("row count", 1, 0, 64);
 pub const KIND: Field = number("kind", 2, 1, 9);
-pub const SUBJECT_KIND: Field = number("subject kind", 2, 4, 6);
+/// "4, 5 or 6", and 7 (request A6).
+pub const SUBJECT_KIND: Field = number("subject kind", 2, 4, 7);
 
 pub const START: [Field; 2] = [SEAT, LIFE];
 pub const QUERY: [Field; 3] = [ANY_LOGIN, DAY, RIGHT];
@@ -125,6 +127,7 @@ pub const OWN: [Field; 2] = [SEAT, HELD_LIFE];
 /// The misses of an image, by door.
 pub const ALL_MISSES: [Field; DOORS] = [MISSES, unnamed(MISSES), unnamed(MISSES), unnamed(MISSES)];
 
+pub const REJOIN: [Field; 2] = [SEAT, LIFE];
 /// The nine actions by kind, from 1. The argument of propose is another action.
 pub const ACTIONS: [(&str, &[Field]); 9] = [
     ("propose", &[]),
@@ -133,7 +136,7 @@ pub const ACTIONS: [(&str, &[Field]); 9] = [
     ("certify", &[SEAT, HELD_LIFE]),
     ("minima", &[MARGIN, LEAST_QUORUM, SILENCE]),
     ("remove", &[SEAT]),
-    ("rejoin", &[SEAT, LIFE]),
+    ("rejoin", &REJOIN),
     ("grant", &LOGIN),
     ("end", &[ANY_LOGIN]),
 ];

@@ -3,7 +3,7 @@
 use crate::compare::call::{given, Records, VOTED};
 use crate::compare::fields::{Login, OwnFields, Proposal, Seat, StateFields, FREE, PRESENT};
 use crate::compare::make::records;
-use crate::layout::roster_line_size;
+use crate::layout::{roster_line_size, SUBJECT_SIZE};
 
 pub struct Case {
     pub name: &'static str,
@@ -40,7 +40,7 @@ pub const SMALL: Size = Size {
     name: "small",
     seats: 3,
     margin: 0,
-    proposals: 1,
+    proposals: 2,
     logins: 2,
     rows: 2,
 };
@@ -55,8 +55,23 @@ impl Size {
             least: 2,
             silence: 30,
             seats: std::array::from_fn(|i| seat(i < self.seats.into())),
-            proposals: (0..self.proposals).map(proposal).collect(),
+            proposals: (0..self.proposals).map(|i| self.proposal(i)).collect(),
             logins: (1..=self.logins).map(login).collect(),
+        }
+    }
+
+    /// A proposal announced in good time: the one before the last to rejoin a seat, the others to
+    /// remove one.
+    fn proposal(&self, i: u8) -> Proposal {
+        let (kind, arguments) = match i + 2 == self.proposals {
+            true => (7, next_life(i)),
+            false => (6, records::subject(6, &[i.into()])),
+        };
+        Proposal {
+            cycle: 900 + u32::from(i),
+            day: DAY - 20,
+            kind,
+            arguments,
         }
     }
 
@@ -64,6 +79,7 @@ impl Size {
     pub fn cases(&self) -> Vec<Case> {
         let propose = late_proposal();
         let remove = announcement(6, records::arguments(&[self.proposals - 1]));
+        let rejoin = announcement(7, records::arguments(&next_life(self.proposals - 2)));
         let grant = announcement(8, records::grant(500 * self.logins, DAY + 200, 3));
         let end = announcement(9, records::arguments(&500u32.to_le_bytes()));
         let late = announcement(9, records::arguments(&1u32.to_le_bytes()));
@@ -78,6 +94,7 @@ impl Size {
                 0,
             ),
             self.case("deliver: remove done", self.deliver(&remove, self.rows), 0),
+            self.case("deliver: rejoin done", self.deliver(&rejoin, self.rows), 0),
             self.case("deliver: grant done", self.deliver(&grant, self.rows), 0),
             self.case("deliver: end done", self.deliver(&end, self.rows), 0),
             self.case("deliver: grant voted", self.deliver(&grant, 0), VOTED),
@@ -152,14 +169,9 @@ fn seat(present: bool) -> Seat {
     }
 }
 
-/// A proposal to remove a seat, announced in good time.
-fn proposal(i: u8) -> Proposal {
-    Proposal {
-        cycle: 900 + u32::from(i),
-        day: DAY - 20,
-        kind: 6,
-        arguments: [i, 0, 0, 0, 0, 0, 0, 0],
-    }
+/// The arguments of a rejoin under the next life.
+fn next_life(seat: u8) -> [u8; SUBJECT_SIZE] {
+    records::subject(7, &[seat.into(), LIFE + 1])
 }
 
 fn login(i: u32) -> Login {

@@ -8,5 +8,6 @@ pub mod one_call;
 pub mod pages;
 pub mod program;
 pub mod rerun;
+mod restarts;
 pub mod rosters;
 pub mod second;

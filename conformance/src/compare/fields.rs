@@ -175,6 +175,15 @@ impl Seat {
     }
 }
 
+/// The least days between a proposal of this kind and its use: "ripe from 7 to 60 days" (request A3),
+/// of a rejoin "ripe from 2 to 60 days" (request A6).
+pub fn notice(kind: u16) -> u32 {
+    match kind {
+        7 => 2,
+        _ => 7,
+    }
+}
+
 impl Proposal {
     /// What a performed propose adds.
     pub fn of(announcement: &[u8]) -> Proposal {
@@ -193,9 +202,9 @@ impl Proposal {
         i64::from(announced) - i64::from(self.day)
     }
 
-    /// "ripe from 7 to 60 days" (request A3)
+    /// Whether its notice is over and it has not lapsed.
     pub fn is_ripe(&self, announced: u32) -> bool {
-        (7..=60).contains(&self.age(announced))
+        (i64::from(notice(self.kind))..=60).contains(&self.age(announced))
     }
 
     /// "lapses on day 61" (request A3)

@@ -309,6 +309,7 @@ fn run_random(
     seed: u64,
     coverage: &mut Coverage,
 ) -> Result<(History, Tally), Found> {
+    coverage.restarts.begin();
     let (mut maker, mut history) = HistoryMaker::new(Random::new(seed));
     let mut hosts = Hosts::new(second, &history.by_value);
     let mut claims = Claims::new(&history.first);
@@ -320,6 +321,7 @@ fn run_random(
             let Some(event) = event else { return Ok(()) };
             coverage.note(&event.request, &event.outcome);
             coverage.notices.note(&event.request, &event.outcome);
+            coverage.restarts.note(&event.request, &event.outcome);
             coverage.doors.note(&event.request, &event.outcome);
             maker.learn(&event);
             claims.note(&event)

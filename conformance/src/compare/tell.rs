@@ -9,6 +9,8 @@ mod notice_marks;
 mod notices;
 mod ranges;
 pub mod replay;
+mod restart_marks;
+mod restarts;
 pub mod roster_marks;
 mod rosters;
 mod summary;

@@ -295,6 +295,55 @@ fn proposals_that_are_not_left_as_they_should_be_are_seen() {
     }
 }
 
+/// What is wrong with a rejoin on day 100, by a node by value of the copy with a fault. Seat 2 was
+/// proposed under life 2 and under life 3, 60 and 2 days before; seat 1 under its own life 2 days
+/// before, seat 0 under life 2 the day before.
+fn rejoin_with(fault: &str, seat: u32, life: u32) -> Option<String> {
+    let arguments = |seat, life| records::subject(7, &[seat, life]);
+    let proposal = |cycle, day, arguments| Proposal {
+        cycle,
+        day,
+        kind: 7,
+        arguments,
+    };
+    let mut state = StateFields::printed_run();
+    state.cycle = 9;
+    state.proposals = vec![
+        proposal(1, 40, arguments(2, 2)),
+        proposal(2, 98, arguments(2, 3)),
+        proposal(3, 98, arguments(1, 1)),
+        proposal(4, 99, arguments(0, 2)),
+    ];
+    let arguments = records::arguments(&arguments(seat, life));
+    let announcement = records::announcement(7, 9, 100, arguments);
+    let sheet = records::sheet([1, 0], &[(0, 1), (1, 1)]);
+    let records = Records::Deliver(announcement, sheet);
+    claims_of(&[made_with(fault, OWN.image(&state), records)]).err()
+}
+
+#[test]
+fn rejoins_that_are_not_as_they_should_be_are_seen() {
+    for (seat, life) in [(2, 2), (2, 3), (1, 1), (0, 2), (0, 9)] {
+        assert_eq!(rejoin_with(NO_FAULT, seat, life), None);
+    }
+    let others = "kind 7 leaves other proposals than it should";
+    let missing = "kind 7 is performed with no proposal of 2 to 60 days";
+    let equal = "kind 7 leaves seat 1 with life 1 after 1";
+    for (fault, seat, life, what) in [
+        ("RejoinUsesAllOfSeat", 2, 2, others),
+        ("RejoinUsesNothing", 2, 3, others),
+        ("RestartNotice1", 0, 2, missing),
+        ("RejoinNeedsNoProposal", 0, 9, missing),
+        ("RejoinEqualLife", 1, 1, equal),
+    ] {
+        let found = rejoin_with(fault, seat, life);
+        assert_eq!(found.as_deref(), Some(what), "{fault}");
+    }
+    let removal = removal_with("RemoveFrees", 2, &[(0, 1), (1, 1)]);
+    let what = "kind 6 leaves seat 2 with life 0 after 1";
+    assert_eq!(claims_of(&[removal]).err().as_deref(), Some(what));
+}
+
 /// A call to a node with 3, 0, 10 and 9 misses, by the copy with a fault; login 501 opens.
 fn at_doors_with(fault: &str, records: Records) -> Option<String> {
     let own = OwnFields {

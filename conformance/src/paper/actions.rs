@@ -26,9 +26,14 @@ fn is_equal(proposal: &Proposal, announcement: &Announcement) -> bool {
     proposal.subject == announcement.subject()
 }
 
-/// "ripe means announced day minus proposal day is at least 7"; request A3: "ripe from 7 to 60 days".
+/// "ripe means announced day minus proposal day is at least 7"; request A3: "ripe from 7 to 60 days";
+/// request A6, of a rejoin's: "ripe from 2 to 60 days".
 fn is_ripe(proposal: &Proposal, announced: Day) -> bool {
-    (7..=60).contains(&announced.since(proposal.day))
+    let least = match proposal.subject.kind {
+        7 => 2,
+        _ => 7,
+    };
+    (least..=60).contains(&announced.since(proposal.day))
 }
 
 /// The state after the action: "cycle plus 1, day as announced". Defined for every state and
@@ -44,7 +49,7 @@ pub fn perform(state: &State, announcement: &Announcement) -> State {
     next
 }
 
-/// "Kinds 4, 5 and 6 also use up the ripe proposal"
+/// "also use up the ripe proposal", rejoin too (request A6)
 fn use_up(state: &mut State, announcement: &Announcement) {
     if let Some(at) = ripe(state, announcement) {
         state.proposals.remove(at);

@@ -44,9 +44,9 @@ impl Announcement {
         })
     }
 
-    /// Kinds 4, 5 and 6: the level 2 that they need, and the proposal that they use up.
+    /// "Kinds 4, 5 and 6 also use up the ripe proposal"; request A6: "rejoin needs its proposal".
     pub fn is_proposed(&self) -> bool {
-        matches!(self.kind, 4..=6)
+        matches!(self.kind, 4..=7)
     }
 
     /// What a proposal of this announcement would hold.
@@ -83,12 +83,12 @@ fn read_action(kind: u16, bytes: &[u8]) -> Read<Action> {
     Ok(action)
 }
 
-/// "subject kind 2 (4, 5 or 6), its first 8 argument bytes"; "a proposal's subject arguments obey
-/// the ranges of their kind".
+/// "subject kind 2 (4, 5 or 6), its first 8 argument bytes"; request A6: "Propose now takes subject
+/// kind 7"; "a proposal's subject arguments obey the ranges of their kind".
 pub fn read_subject(reader: &mut Reader) -> Read<Subject> {
     let kind = reader.u16()?;
     let arguments = reader.take(8)?;
-    require(matches!(kind, 4..=6))?;
+    require(matches!(kind, 4..=7))?;
     read_action(kind, arguments)?;
     Ok(Subject {
         kind,
@@ -130,7 +130,7 @@ pub fn read_minima(reader: &mut Reader) -> Read<Minima> {
     })
 }
 
-/// "seat 1, life 4"; life 0 is well formed and meets rule 9 or 14.
+/// "seat 1, life 4"; life 0 is well formed and meets rule 9, 10 or 14.
 fn read_rejoin(reader: &mut Reader) -> Read<Action> {
     let seat = reader.seat()?;
     let life = reader.u32()?;

@@ -25,7 +25,7 @@ fn applies(number: u8, state: &State, announcement: &Announcement, sheet: &Sheet
         // "too few trustees"
         8 => !sheet.has_majority(level(announcement), state),
         9 => is_unfit(state, &announcement.action),
-        // "no ripe proposal"
+        // "no ripe proposal"; request A6: "Rule 10 now covers kind 7."
         10 => announcement.is_proposed() && ripe(state, announcement).is_none(),
         11 => is_full(state, &announcement.action),
         12 => leaves_no_quorum(state, announcement),
@@ -37,7 +37,7 @@ fn applies(number: u8, state: &State, announcement: &Announcement, sheet: &Sheet
 /// The place of the level in a state and on a sheet: "Kinds 4, 5 and 6 need more than half of level
 /// 2, the others more than half of level 1."
 fn level(announcement: &Announcement) -> usize {
-    usize::from(announcement.is_proposed())
+    usize::from(matches!(announcement.kind, 4..=6))
 }
 
 /// "seat's standing unfit (kinds 3, 4, 6, 7)"

@@ -158,11 +158,11 @@ fn action(line: &mut Words, expected: &str) -> Parse<(u16, Vec<u8>)> {
     Ok((2 + place as u16, values(line, fields)?))
 }
 
-/// "subject kind 2 (4, 5 or 6), its first 8 argument bytes". Other kinds are written where their
-/// arguments fit.
+/// "subject kind 2 (4, 5 or 6), its first 8 argument bytes", or 7 (request A6). Other kinds are written
+/// where their arguments fit.
 fn subject(line: &mut Words) -> Parse<Vec<u8>> {
     let first = line.peek();
-    let (kind, mut arguments) = action(line, "certify, minima or remove")?;
+    let (kind, mut arguments) = action(line, "certify, minima, remove or rejoin")?;
     if let Some(word) = first.filter(|_| arguments.len() > SUBJECT_SIZE) {
         let size = arguments.len();
         let what = format!("`{}` has {size} argument bytes, a subject 8", word.text);

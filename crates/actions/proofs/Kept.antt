@@ -90,7 +90,9 @@ module _ (s : State) (d : Day) (before : Sound (s .cycle) (s .day) s) (h : Sound
       let r9 = passes-rule (not (isActive x)) 9 _ refl e in
       let l = leb-false life (x .life) (unrefused _ 14 refl (r9 .1)) in
       let k = well-formed-held x (seat-good h i .1) (active-not-free x (not-false _ (r9 .0))) in
-      with-seat h i (x .standing) life (r .0) (good-seat (x .standing) life (k .low) (k .high) (omega arith) (r .1)) (λ p q. same-present h p _ q)
+      with-dropped
+      (with-seat h i (x .standing) life (r .0) (good-seat (x .standing) life (k .low) (k .high) (omega arith) (r .1)) (λ p q. same-present h p _ q))
+      _
   act-kept (Grant x) wc wd r e =
       let u = ne-eqb (x .login) 0 (let l = r .0 in omega arith) in
       with-logins h _ (table-grant x (h .logins) (rw u) (r .0) ((r .1, (r .2, r .4)), rw (u, le-leb 1 (x .rights) (r .3))))

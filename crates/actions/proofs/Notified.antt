@@ -56,7 +56,7 @@ before s d r u (Presents i flag) m = inl m
 before s d r u (Certify i life) m = inl (of-drop _ (s .proposals) u m .0)
 before s d r u (Minima x) m = inl (of-drop _ (s .proposals) u m .0)
 before s d r u (Remove i) m = inl (of-drop _ (s .proposals) u m .0)
-before s d r u (Rejoin i life) m = inl m
+before s d r u (Rejoin i life) m = inl (of-drop _ (s .proposals) u m .0)
 before s d r u (Grant x) m = inl m
 before s d r u (End login) m = inl m
 
@@ -73,14 +73,14 @@ none-older s a r m u = by (before (withoutLapsed (a .day) s) (a .day) r u (a .ac
 -- The table after an action that has a subject: the first mature proposal is dropped.
 used-table : (s : State) (d : Day) (x : Action) → subjectOf x .kind ≢ 0
     → act s d x .proposals ≡ dropProposal (matureProposal (subjectOf x) d (s .proposals) .cycle) (s .proposals)
-unfolding act effect withStanding useProposal
+unfolding act effect withStanding withLife useProposal
 used-table s d (Propose x) k = absurd (k refl)
 used-table s d (Cancel c) k = absurd (k refl)
 used-table s d (Presents i flag) k = absurd (k refl)
 used-table s d (Certify i life) k = refl
 used-table s d (Minima x) k = refl
 used-table s d (Remove i) k = refl
-used-table s d (Rejoin i life) k = absurd (k refl)
+used-table s d (Rejoin i life) k = refl
 used-table s d (Grant x) k = absurd (k refl)
 used-table s d (End login) k = absurd (k refl)
 

@@ -81,7 +81,7 @@ AlwaysSigned = (s : State) (a : Announcement) (mask1 mask2 : ℕ) → Admitted s
 -- the notice that an announced action with a subject uses up
 pub record UsesNotice (s : State) (a : Announcement) : Type 0 where
   pub proposal : Proposal
-  -- it is listed, and from 7 to 60 days before the announced day
+  -- it is listed, and from 7 to 60 days before the announced day; that of a rejoin from 2 to 60
   pub listed : List·Memᴰ proposal (s .proposals)
   pub notice : IsNotice (subjectOf (a .action)) (a .day) proposal
   -- "of lowest cycle"

@@ -76,7 +76,8 @@ fn minima_after(minima: Minima, action: Action) -> Minima
     }
 }
 
-// The proposals, in this cycle and for an action that is announced on day d. An action that needs a notice uses it up.
+// The proposals, in this cycle and for an action that is announced on day d. One that has a subject uses up its notice, of that cycle: a
+// `match` of all cases, since with early returns and a test of the subject a delivery takes a tenth longer.
 fn proposals_after(
     rows: [Proposal; PROPOSAL_ROWS],
     notice: Cycle,
@@ -100,7 +101,7 @@ fn proposals_after(
         Action::Certify { seat, life } => drop_proposal(rows, notice),
         Action::Minima { minima } => drop_proposal(rows, notice),
         Action::Remove { seat } => drop_proposal(rows, notice),
-        Action::Rejoin { seat, life } => rows,
+        Action::Rejoin { seat, life } => drop_proposal(rows, notice),
         Action::Grant { row } => rows,
         Action::End { login } => rows,
     }

@@ -19,5 +19,6 @@ pub mod Notice
 pub mod Lapse
 pub mod Provenance
 pub mod Lives
+pub mod Restarts
 pub mod Removed
 pub mod AccessPage

@@ -26,6 +26,7 @@ use Rattle.agreement.specs.Chain.{Step, Reached, origin, next}
 use Rattle.agreement.proofs.Demand.{advances}
 use Rattle.assurance.specs.Lives.{Rises, NeverFalls, Stems, at-first, certified, rejoined, LivesStem, EarlierLivesNeverCount}
 use Rattle.assurance.proofs.Facts.{step-well-formed, step-found}
+use Rattle.assurance.proofs.Notice.{always-noticed}
 
 -- a free seat of a well-formed state has life 0
 free-life : (s : State) (i : ℕ) → WellFormed s → seatAt i (s .seats) .standing ≡ free → seatAt i (s .seats) .life ≡ 0
@@ -106,10 +107,10 @@ never-falls first calls park s u R i = rises first calls park i R
 
 module _ (s : State) (d : Day) (i : ℕ) where
   -- the life of seat i after an action: as it was, or named by the action
-  abbrev From : Action → ℕ → Type 0
+  abbrev pub From : Action → ℕ → Type 0
   From x life = (life ≡ seatAt i (s .seats) .life) ⊎ ((x ≡ Certify i life) ⊎ (x ≡ Rejoin i life))
 
-  life-from : (x : Action) → From x (seatAt i (act s d x .seats) .life)
+  pub life-from : (x : Action) → From x (seatAt i (act s d x .seats) .life)
   unfolding act withStanding withLife useProposal effect
   life-from (Propose x) = inl refl
   life-from (Cancel c) = inl refl
@@ -128,8 +129,12 @@ module _ (first : State) (calls : History) (i : ℕ) where
   later-stems : {r s : State} {life : ℕ} (a : Announcement) → Step calls r a → s ≡ perform r a → Stems first calls r i life
       → Stems first calls s i life
   later-stems a x e (at-first f) = at-first f
-  later-stems {r} a x e (certified q b Q y f C) = certified q b Q y f (next r a C x e)
-  later-stems {r} a x e (rejoined q b Q y f C) = rejoined q b Q y f (next r a C x e)
+  later-stems {r} a x e (certified q b y Q f n C) = certified q b y Q f n (next r a C x e)
+  later-stems {r} a x e (rejoined q b y Q f n C) = rejoined q b y Q f n (next r a C x e)
+
+module _ (park-first : List ℕ) (calls : History) (park : Park park-first calls) (i : ℕ) where
+  abbrev first : State
+  first = readCheckpoint park-first .state
 
   stems : {s : State} → Reached first (Step calls) s → Stems first calls s i (seatAt i (s .seats) .life)
   unfolding perform advance
@@ -140,12 +145,12 @@ module _ (first : State) (calls : History) (i : ℕ) where
     where
       at : Stems first calls r i (seatAt i (r .seats) .life) → From r (a .day) i (a .action) (seatAt i (perform r a .seats) .life)
           → Stems first calls s i (seatAt i (perform r a .seats) .life)
-      at before (inl same) = later-stems a x e (subst (Stems first calls r i) (sym same) before)
-      at before (inr (inl f)) = certified r a R x f (origin e)
-      at before (inr (inr f)) = rejoined r a R x f (origin e)
+      at before (inl same) = later-stems first calls i a x e (subst (Stems first calls r i) (sym same) before)
+      at before (inr (inl f)) = certified r a x R f (always-noticed park-first calls park r a x (rw f (λ z. omega arith))) (origin e)
+      at before (inr (inr f)) = rejoined r a x R f (always-noticed park-first calls park r a x (rw f (λ z. omega arith))) (origin e)
 
 pub lives-stem : LivesStem
-lives-stem first calls s R i = stems (readCheckpoint first .state) calls i R
+lives-stem first calls park s R i = stems first calls park i R
 
 -- ---- rows of earlier lives
 

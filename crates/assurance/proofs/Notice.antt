@@ -1,4 +1,4 @@
--- Where the notice of a certify, minima or remove comes from, and that it is used once.
+-- Where the notice of an action that has a subject comes from, and that it is used once.
 use mathlib.Core.Path.{_≡_, sym, ap, _∙_, subst}
 use mathlib.Core.Logic.{_⊎_, inl, inr}
 use mathlib.Core.Bool.{true}

@@ -1,4 +1,4 @@
--- Every certify, minima or remove that is performed was announced by a propose, with or without the bound on double voters.
+-- Every certify, minima, remove or rejoin that is performed was announced by a propose, with or without the bound on double voters.
 use mathlib.Core.Path.{_≡_}
 use mathlib.Core.Logic.{_≢_}
 use mathlib.Core.Bool.{true}
@@ -35,9 +35,9 @@ pub data Proposed (first : State) (calls : History) (u : State) (r : Proposal) :
       → r .cycle ≡ s .cycle → r .day ≡ a .day → isMajority (s .trustees1) (level1 (x .sheet)) ≡ true
       → Stays calls r (perform s a) u → Proposed first calls u r
 
--- Each performed action that has a subject (certify, minima, remove) uses up a proposal of that subject, listed in its state and announced from 7 to
--- 60 days before, which stands in the first state or was proposed in the same chain and not cancelled, not used before and not lapsed; a majority of
--- the level of its kind signed it. No later state of the chain lists that row: one propose, one action.
+-- Each performed action that has a subject (certify, minima, remove, rejoin) uses up a proposal of that subject, listed in its state and announced
+-- from 7 to 60 days before, for a rejoin from 2 to 60, which stands in the first state or was proposed in the same chain and not cancelled, not used
+-- before and not lapsed; a majority of the level of its kind signed it. No later state of the chain lists that row: one propose, one action.
 pub record Noticed (first : State) (calls : History) (u : State) (b : Announcement) (x : Step calls u b) : Type 0 where
   pub row : Proposal
   pub listed : Listed row u

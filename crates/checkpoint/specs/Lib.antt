@@ -4,3 +4,4 @@ pub mod Format
 pub mod Checkpoint
 pub mod Code
 pub mod Claims
+pub mod Editions

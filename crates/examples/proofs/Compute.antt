@@ -10,7 +10,7 @@ use Rattle.calendar.specs.Text.{dayText}
 use Rattle.state.specs.Minima.{isInRange}
 use Rattle.state.specs.Seats.{presentSeats, quorum, quorumOf}
 use Rattle.state.specs.Trustees.{onesBelow, isMajority}
-use Rattle.state.specs.Subjects.{isCertify, isMinima, isRemove, isSubject}
+use Rattle.state.specs.Subjects.{isSeatAndLife, isCertify, isMinima, isRemove, isSubject}
 use Rattle.state.specs.WellFormed.{areWellFormedProposals, areWellFormedLogins, isWellFormed, blankState}
 use Rattle.tables.specs.Proposals.{addProposal, hasProposal, dropProposal, dropLapsed, matureProposal}
 use Rattle.tables.specs.Logins.{findLogin, isListed, insertLogin, grantLogin, endLogin}
@@ -34,7 +34,7 @@ use Rattle.node.specs.Page.{pageOf, pageSlice}
 unfoldable pub calls-by-value : Unit {0}
 unfolding any all count countFrom first risingFrom keep fill replaceFirst lowest toBytes fromBytes isZeroFrom overwrite encodeRows decodeRows
     digits padded monthDays nextDate dateOf dayText places linesOf pageText
-    isInRange presentSeats quorum quorumOf onesBelow isMajority isCertify isMinima isRemove isSubject
+    isInRange presentSeats quorum quorumOf onesBelow isMajority isSeatAndLife isCertify isMinima isRemove isSubject
     areWellFormedProposals areWellFormedLogins isWellFormed blankState
     addProposal hasProposal dropProposal dropLapsed matureProposal findLogin isListed insertLogin grantLogin endLogin
     announcing readPropose readCancel readPresents readCertify readMinima readRemove readRejoin readGrant readEnd readKind readAnnouncement

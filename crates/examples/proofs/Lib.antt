@@ -3,6 +3,7 @@ pub mod Compute
 pub mod Examples
 pub mod TableOfNo
 pub mod Lapse
+pub mod Restarts
 pub mod Doors
 pub mod AccessPage
 pub mod Roster

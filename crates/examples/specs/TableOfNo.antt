@@ -3,12 +3,13 @@ use mathlib.Core.Path.{_≡_}
 use mathlib.Core.List.{List, [], _∷_, _++_}
 use Prim.Native.Nat.{ℕ, zero, suc, _+_}
 use lib.ListN.{take, replicate}
+use Rattle.state.specs.declared.Subject.{Subject}
 use Rattle.state.specs.declared.Proposal.{Proposal}
 use Rattle.state.specs.declared.State.{State}
 use Rattle.state.specs.Limits.{proposalRows, loginRows}
 use Rattle.state.specs.Time.{day, cycle, lastCycle}
 use Rattle.state.specs.Seats.{certified, setSeat}
-use Rattle.state.specs.Subjects.{removes}
+use Rattle.state.specs.Subjects.{removes, rejoins}
 use Rattle.state.specs.Update.{withTime, withSeats, withProposals, withLogins}
 use Rattle.records.specs.declared.Action.the-variants.{Propose, Cancel, Certify, Remove, Rejoin, End}
 use Rattle.records.specs.Sheet.{sheetOf}
@@ -78,9 +79,9 @@ granted = deliverOf (started firstState) (announce 1 101 grant501) twoVotes .nod
 abbrev pub voted : Node
 voted = deliverOf (started firstState) (announce 1 101 grant501) unvoted .node
 
--- in cycle 2, with the proposal of day 101 to remove its own seat
-abbrev pub proposed : State → Node
-proposed s = deliverOf (started s) (announce 1 101 (Propose (removes 0))) twoVotes .node
+-- in cycle 2, with a proposal of day 101
+abbrev pub proposed : Subject → State → Node
+proposed x s = deliverOf (started s) (announce 1 101 (Propose x)) twoVotes .node
 
 -- after k queries for login 0
 unfoldable pub afterBad : ℕ → Node
@@ -95,7 +96,7 @@ pub record TableOfNo : Type 0 where
   -- 2 "sheet malformed": "row with seat 32"
   pub sheet-malformed : deliverOf (started firstState) (announce 1 101 grant501) (sheetOf 1 1 (vote 32 ∷ [])) .answer ≡ Deliver.Refused 2
   -- 3 "node halted": "query after its seat was removed"
-  pub halted : queryOf (deliverOf (proposed firstState) (announce 2 108 (Remove 0)) twoVotes .node) (query 501 108 0) .answer ≡ Query.Refused 3
+  pub halted : queryOf (deliverOf (proposed (removes 0) firstState) (announce 2 108 (Remove 0)) twoVotes .node) (query 501 108 0) .answer ≡ Query.Refused 3
   -- 4 "cycle passed": "cycle 1 at a node in 2"
   pub cycle-passed : deliverOf granted (announce 1 101 grant501) twoVotes .answer ≡ Deliver.Refused 4
   -- 5 "cycle not reached": "cycle 3 at a node in 2"
@@ -110,23 +111,23 @@ pub record TableOfNo : Type 0 where
   -- 9 "seat's standing unfit": "certify a present seat"
   pub seat-unfit : deliverOf (started firstState) (announce 1 101 (Certify 1 1)) twoVotes .answer ≡ Deliver.Refused 9
   -- 10 "no ripe proposal": "remove after 6 days"; "ripe from 7 to 60 days": after 7 days, 60 and 61
-  pub no-ripe-proposal : deliverOf (proposed firstState) (announce 2 107 (Remove 0)) twoVotes .answer ≡ Deliver.Refused 10
-  pub first-ripe-day : deliverOf (proposed firstState) (announce 2 108 (Remove 0)) twoVotes .answer ≡ Deliver.Done
-  pub last-ripe-day : deliverOf (proposed firstState) (announce 2 161 (Remove 0)) twoVotes .answer ≡ Deliver.Done
-  pub lapsed-proposal : deliverOf (proposed firstState) (announce 2 162 (Remove 0)) twoVotes .answer ≡ Deliver.Refused 10
+  pub no-ripe-proposal : deliverOf (proposed (removes 0) firstState) (announce 2 107 (Remove 0)) twoVotes .answer ≡ Deliver.Refused 10
+  pub first-ripe-day : deliverOf (proposed (removes 0) firstState) (announce 2 108 (Remove 0)) twoVotes .answer ≡ Deliver.Done
+  pub last-ripe-day : deliverOf (proposed (removes 0) firstState) (announce 2 161 (Remove 0)) twoVotes .answer ≡ Deliver.Done
+  pub lapsed-proposal : deliverOf (proposed (removes 0) firstState) (announce 2 162 (Remove 0)) twoVotes .answer ≡ Deliver.Refused 10
   -- 11 "table full and the row is needed": "17th proposal, 65th login"; the 17th where the first proposal is 60 days old, and where it is 61
   pub proposals-full : deliverOf (started fullProposals) (announce 17 116 (Propose (removes 0))) twoVotes .answer ≡ Deliver.Refused 11
   pub none-lapsed : deliverOf (started fullProposals) (announce 17 161 (Propose (removes 0))) twoVotes .answer ≡ Deliver.Refused 11
   pub one-lapsed : deliverOf (started fullProposals) (announce 17 162 (Propose (removes 0))) twoVotes .answer ≡ Deliver.Done
   pub logins-full : deliverOf (started fullLogins) (announce 1 101 grant501) twoVotes .answer ≡ Deliver.Refused 11
   -- 12 "kind 3, 5 or 6 would leave quorum above p": "remove with p=2, k=2"
-  pub quorum-above : deliverOf (proposed (certifiedSeat 2)) (announce 2 108 (Remove 0)) twoVotes .answer ≡ Deliver.Refused 12
+  pub quorum-above : deliverOf (proposed (removes 0) (certifiedSeat 2)) (announce 2 108 (Remove 0)) twoVotes .answer ≡ Deliver.Refused 12
   -- 13 "no such proposal or login": "end of 7 in an empty list"; "Cancelling a lapsed one meets rule 13.": after 60 days and 61
   pub no-such-login : deliverOf (started firstState) (announce 1 101 (End 7)) twoVotes .answer ≡ Deliver.Refused 13
-  pub last-day-to-cancel : deliverOf (proposed firstState) (announce 2 161 (Cancel (cycle 1))) twoVotes .answer ≡ Deliver.Done
-  pub no-such-proposal : deliverOf (proposed firstState) (announce 2 162 (Cancel (cycle 1))) twoVotes .answer ≡ Deliver.Refused 13
-  -- 14 "rejoin life not above the listed": "rejoin with life 1 over 1"
-  pub life-not-above : deliverOf (started firstState) (announce 1 101 (Rejoin 1 1)) twoVotes .answer ≡ Deliver.Refused 14
+  pub last-day-to-cancel : deliverOf (proposed (removes 0) firstState) (announce 2 161 (Cancel (cycle 1))) twoVotes .answer ≡ Deliver.Done
+  pub no-such-proposal : deliverOf (proposed (removes 0) firstState) (announce 2 162 (Cancel (cycle 1))) twoVotes .answer ≡ Deliver.Refused 13
+  -- 14 "rejoin life not above the listed": "rejoin with life 1 over 1", once its proposal is mature
+  pub life-not-above : deliverOf (proposed (rejoins 1 1) firstState) (announce 2 103 (Rejoin 1 1)) twoVotes .answer ≡ Deliver.Refused 14
   -- 15 "no quorum, and own seat not present or own life not listed": "certified node"
   pub may-not-vote : deliverOf (started (certifiedSeat 0)) (announce 1 101 grant501) unvoted .answer ≡ Deliver.Refused 15
   -- 16 "no quorum, and voted for other bytes this cycle": "second announcement"

@@ -5,7 +5,7 @@ use lib.Dec.{eqb}
 use Rattle.state.specs.declared.Subject.{Subject}
 use Rattle.state.specs.Limits.{seatCount}
 use Rattle.state.specs.Kinds.{kindPropose, kindCancel, kindPresents, kindCertify, kindMinima, kindRemove, kindRejoin, kindGrant, kindEnd}
-use Rattle.state.specs.Subjects.{certifies, setsMinima, removes, noSubject}
+use Rattle.state.specs.Subjects.{certifies, setsMinima, removes, rejoins, noSubject}
 use Rattle.records.specs.declared.Action.{Action}
 use Rattle.records.specs.declared.Action.the-variants.{Propose, Cancel, Presents, Certify, Minima, Remove, Rejoin, Grant, End}
 
@@ -25,7 +25,8 @@ kindOf (End login) = kindEnd
 abbrev pub levelOf : ℕ → ℕ
 levelOf kind = cond (eqb kind kindCertify || (eqb kind kindMinima || eqb kind kindRemove)) 2 1
 
--- "Kinds 4, 5 and 6 also use up the ripe proposal .. with the same kind and arguments": the subject of that proposal, and none for the other kinds
+-- "Kinds 4, 5 and 6 also use up the ripe proposal .. with the same kind and arguments", and "rejoin needs its proposal" (02, A6): the subject of that
+-- proposal, and none for the other kinds
 abbrev pub subjectOf : Action → Subject
 subjectOf (Propose x) = noSubject
 subjectOf (Cancel c) = noSubject
@@ -33,7 +34,7 @@ subjectOf (Presents i flag) = noSubject
 subjectOf (Certify i life) = certifies i life
 subjectOf (Minima x) = setsMinima x
 subjectOf (Remove i) = removes i
-subjectOf (Rejoin i life) = noSubject
+subjectOf (Rejoin i life) = rejoins i life
 subjectOf (Grant x) = noSubject
 subjectOf (End login) = noSubject
 

@@ -15,6 +15,7 @@ use state::kinds::REMOVE;
 use state::limits::SEAT_NUMBERS;
 use state::subjects::NO_SUBJECT;
 use state::subjects::certifies;
+use state::subjects::rejoins;
 use state::subjects::removes;
 use state::subjects::sets_minima;
 
@@ -46,7 +47,7 @@ impl Action {
             Action::Certify { seat, life } => certifies(seat, life),
             Action::Minima { minima } => sets_minima(minima),
             Action::Remove { seat } => removes(seat),
-            Action::Rejoin { seat, life } => NO_SUBJECT,
+            Action::Rejoin { seat, life } => rejoins(seat, life),
             Action::Grant { row } => NO_SUBJECT,
             Action::End { login } => NO_SUBJECT,
         }

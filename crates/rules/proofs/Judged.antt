@@ -1,11 +1,8 @@
 -- The refusal of an action in its three parts: the trustees' number, the notice's, and that of the kind's check.
 use mathlib.Core.Path.{_≡_, refl, _∙_}
 use Prim.Native.Nat.{ℕ}
-use native.Mathlib.Omega.{arith}
-use mathlib.Core.List.{List}
 use Rattle.refusals.specs.Refusals.{lowest, _orElse_}
 use Rattle.state.specs.declared.Day.{Day}
-use Rattle.state.specs.declared.Proposal.{Proposal}
 use Rattle.state.specs.declared.State.{State}
 use Rattle.records.specs.declared.Action.{Action}
 use Rattle.records.specs.declared.Action.the-variants.{Propose, Cancel, Presents, Certify, Minima, Remove, Rejoin, Grant, End}
@@ -17,23 +14,6 @@ pub judged : (s : State) (d : Day) (mask1 mask2 : ℕ) (x : Action) (kind unsign
     → unfit ≡ checkRefusal s d x → r ≡ (unsigned orElse lowest unnoticed unfit) → r ≡ actionRefusal s d mask1 mask2 x
 unfolding actionRefusal
 judged s d mask1 mask2 x kind unsigned unnoticed unfit r e a b c f = f ∙ rw (a, b, c, e)
-
--- An action without a subject needs no notice.
-pub no-notice : (rows : List Proposal) (d : Day) (x : Action) → subjectOf x .kind ≡ 0 → 0 ≡ noticeRefusal rows d (subjectOf x)
-unfolding noticeRefusal
-no-notice rows d x e = rw e
-
--- Kinds 4, 5 and 6 have a subject, the others none.
-pub level-1 : (x : Action) → levelOf (kindOf x) ≡ 1 → subjectOf x .kind ≡ 0
-level-1 (Propose x) l = refl
-level-1 (Cancel c) l = refl
-level-1 (Presents i flag) l = refl
-level-1 (Certify i life) l = absurd (omega arith)
-level-1 (Minima x) l = absurd (omega arith)
-level-1 (Remove i) l = absurd (omega arith)
-level-1 (Rejoin i life) l = refl
-level-1 (Grant x) l = refl
-level-1 (End login) l = refl
 
 -- Every action has one of the nine kinds.
 pub one-kind : {P : Type 0} (x : Action) → (kindOf x ≡ 1 → P) → (kindOf x ≡ 2 → P) → (kindOf x ≡ 3 → P) → (kindOf x ≡ 4 → P) → (kindOf x ≡ 5 → P)

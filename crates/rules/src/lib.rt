@@ -103,9 +103,6 @@ fn notice_refusal(found: Found, action: Action) -> u8
     refuse_if((subject.kind != 0) & !notice.is_used(), 10)
 }
 
-// No rule applies.
-const NONE: u8 = 0;
-
 // The lowest of the numbers of the trustees, of the notice and of the check.
 fn refusal(unsigned: u8, unnoticed: u8, unfit: u8) -> u8
     ensures { λ r. ⌜ r ≡ (unsigned orElse lowest unnoticed unfit) ⌝ }
@@ -113,8 +110,8 @@ fn refusal(unsigned: u8, unnoticed: u8, unfit: u8) -> u8
     or_else(unsigned, lowest(unnoticed, unfit))
 }
 
-// Rules 8 to 14. One decision on the kind number: each kind names the level of its trustees, whether it needs a notice, and its check;
-// others are malformed.
+// Rules 8 to 14. One decision on the kind number: each kind names the level of its trustees and its check; others are malformed. Whether
+// it needs a notice is told by its subject.
 pub fn action_refusal(s: State, found: Found, d: Day, mask1: u8, mask2: u8, action: Action) -> u8
     requires { ⌜ FindsSeats s action found × FindsNotice s d action found ⌝ }
     ensures { λ r. ⌜ r ≡ actionRefusal s d mask1 mask2 action ⌝ }
@@ -122,25 +119,17 @@ pub fn action_refusal(s: State, found: Found, d: Day, mask1: u8, mask2: u8, acti
     let kind = action.kind();
     let level1 = trustee_refusal(s.trustees1, mask1);
     let level2 = trustee_refusal(s.trustees2, mask2);
+    let notice = notice_refusal(found, action);
     match kind {
-        PROPOSE => refusal(level1, NONE, propose_check(s, action)),
-        CANCEL => refusal(level1, NONE, cancel_check(s, action)),
-        PRESENTS => refusal(level1, NONE, presents_check(s, found, action)),
-        CERTIFY => {
-            let notice = notice_refusal(found, action);
-            refusal(level2, notice, certify_check(s, found, action))
-        }
-        MINIMA => {
-            let notice = notice_refusal(found, action);
-            refusal(level2, notice, minima_check(s, found, action))
-        }
-        REMOVE => {
-            let notice = notice_refusal(found, action);
-            refusal(level2, notice, remove_check(s, found, action))
-        }
-        REJOIN => refusal(level1, NONE, rejoin_check(s, found, action)),
-        GRANT => refusal(level1, NONE, grant_check(s, d, action)),
-        END => refusal(level1, NONE, end_check(s, action)),
+        PROPOSE => refusal(level1, notice, propose_check(s, action)),
+        CANCEL => refusal(level1, notice, cancel_check(s, action)),
+        PRESENTS => refusal(level1, notice, presents_check(s, found, action)),
+        CERTIFY => refusal(level2, notice, certify_check(s, found, action)),
+        MINIMA => refusal(level2, notice, minima_check(s, found, action)),
+        REMOVE => refusal(level2, notice, remove_check(s, found, action)),
+        REJOIN => refusal(level1, notice, rejoin_check(s, found, action)),
+        GRANT => refusal(level1, notice, grant_check(s, d, action)),
+        END => refusal(level1, notice, end_check(s, action)),
         _ => 1,
     }
 }

@@ -1,19 +1,27 @@
 -- The subject of a proposal: "subject kind 2 (4, 5 or 6), its first 8 argument bytes", these as one little-endian number; "unused ones zero".
+-- "Propose now takes subject kind 7" (02, A6).
 use Prim.Native.Nat.{ℕ, _+_, _*_, _/_, _%_, _^_}
-use mathlib.Core.Bool.{Bool, _&&_, _||_}
+use mathlib.Core.Bool.{Bool, cond, _&&_, _||_}
 use lib.Dec.{eqb, ltb, leb}
 use Rattle.state.specs.declared.Minima.{Minima}
 use Rattle.state.specs.declared.Subject.{Subject}
 use Rattle.state.specs.Limits.{seatCount}
-use Rattle.state.specs.Kinds.{kindCertify, kindMinima, kindRemove}
+use Rattle.state.specs.Kinds.{kindCertify, kindMinima, kindRemove, kindRejoin}
 use Rattle.state.specs.Minima.{isInRange}
 
--- "4 certify | seat 1, life 4 (at least 1)"; "seats are below 32"
+-- "seat 1, life 4"; "seats are below 32"
+abbrev pub seatAndLife : ℕ → ℕ → ℕ
+seatAndLife seat life = seat + 256 * life
+
+unfoldable pub isSeatAndLife : ℕ → Bool
+isSeatAndLife a = ltb (a % 256) seatCount && ltb a (256 ^ 5)
+
+-- "4 certify | seat 1, life 4 (at least 1)"
 abbrev pub certifies : ℕ → ℕ → Subject
-certifies seat life = record { kind = kindCertify; arguments = seat + 256 * life }
+certifies seat life = record { kind = kindCertify; arguments = seatAndLife seat life }
 
 unfoldable pub isCertify : ℕ → Bool
-isCertify a = ltb (a % 256) seatCount && (leb 1 (a / 256) && ltb a (256 ^ 5))
+isCertify a = isSeatAndLife a && leb 1 (a / 256)
 
 -- "5 minima | m 1, k 1, S 2"
 abbrev pub setsMinima : Minima → Subject
@@ -32,6 +40,10 @@ removes seat = record { kind = kindRemove; arguments = seat }
 unfoldable pub isRemove : ℕ → Bool
 isRemove a = ltb a seatCount
 
+-- "7 rejoin | seat 1, life 4"
+abbrev pub rejoins : ℕ → ℕ → Subject
+rejoins seat life = record { kind = kindRejoin; arguments = seatAndLife seat life }
+
 -- that of an action that needs no notice
 abbrev pub noSubject : Subject
 noSubject = record { kind = 0; arguments = 0 }
@@ -40,4 +52,9 @@ noSubject = record { kind = 0; arguments = 0 }
 unfoldable pub isSubject : Subject → Bool
 isSubject x =
     (eqb (x .kind) kindCertify && isCertify (x .arguments))
-    || ((eqb (x .kind) kindMinima && isMinima (x .arguments)) || (eqb (x .kind) kindRemove && isRemove (x .arguments)))
+    || ((eqb (x .kind) kindMinima && isMinima (x .arguments))
+    || ((eqb (x .kind) kindRemove && isRemove (x .arguments)) || (eqb (x .kind) kindRejoin && isSeatAndLife (x .arguments))))
+
+-- "ripe means announced day minus proposal day is at least 7", and of a rejoin's proposal at least 2 (02, A6), by the kind of its subject
+abbrev pub noticeDays : ℕ → ℕ
+noticeDays kind = cond (eqb kind kindRejoin) 2 7

@@ -1,11 +1,13 @@
-// The subjects of proposals: a kind, 4 certify, 5 minima or 6 remove, and its argument bytes as one little-endian number.
+// The subjects of proposals: a kind, 4 certify, 5 minima, 6 remove or 7 rejoin, and its argument bytes as one little-endian number.
 ghost use mathlib.Core.Path.{_≡_};
 ghost use Rattle.state.specs.Minima.{isInRange};
-ghost use Rattle.state.specs.Subjects.{minimaIn, isCertify, isMinima, isRemove, isSubject, certifies, setsMinima, removes};
+ghost use Rattle.state.specs.Subjects.{minimaIn, isSeatAndLife, isCertify, isMinima, isRemove, isSubject, noticeDays};
+ghost use Rattle.state.specs.Subjects.{seatAndLife, certifies, setsMinima, removes, rejoins};
 use crate::Minima;
 use crate::Subject;
 use crate::kinds::CERTIFY;
 use crate::kinds::MINIMA;
+use crate::kinds::REJOIN;
 use crate::kinds::REMOVE;
 use crate::limits::MOST_LEAST;
 use crate::limits::MOST_MARGIN;
@@ -32,11 +34,18 @@ fn minima_in(a: u64) -> Minima
     }
 }
 
-// A seat below 32, a life of at least 1, and zero bytes after them.
+// A seat below 32, any life, and zero bytes after them.
+fn is_seat_and_life(a: u64) -> bool
+    ensures { λ r. ⌜ r ≡ isSeatAndLife a ⌝ }
+{
+    (a % 256 < 32) & (a < 1099511627776)
+}
+
+// Of these, a life of at least 1.
 fn is_certify(a: u64) -> bool
     ensures { λ r. ⌜ r ≡ isCertify a ⌝ }
 {
-    (a % 256 < 32) & ((1 <= a / 256) & (a < 1099511627776))
+    is_seat_and_life(a) & (1 <= a / 256)
 }
 
 // Minima within their ranges, and zero bytes after them.
@@ -65,9 +74,24 @@ impl Subject {
             CERTIFY => is_certify(arguments),
             MINIMA => is_minima(arguments),
             REMOVE => is_remove(arguments),
+            REJOIN => is_seat_and_life(arguments),
             _ => false,
         }
     }
+
+    // The least number of days from a proposal of it to the action.
+    pub fn notice_days(self) -> u32
+        ensures { λ r. ⌜ r ≡ noticeDays (self .kind) ⌝ }
+    {
+        if self.kind == REJOIN { 2 } else { 7 }
+    }
+}
+
+// The argument bytes of a seat and a life.
+fn seat_and_life(seat: u8, life: u32) -> u64
+    ensures { λ r. ⌜ r ≡ seatAndLife seat life ⌝ }
+{
+    (seat as u64) + 256 * (life as u64)
 }
 
 // The subject of each action that needs a notice, and that of any other.
@@ -76,7 +100,7 @@ pub fn certifies(seat: u8, life: u32) -> Subject
 {
     Subject {
         kind: CERTIFY,
-        arguments: (seat as u64) + 256 * (life as u64),
+        arguments: seat_and_life(seat, life),
     }
 }
 
@@ -95,6 +119,15 @@ pub fn removes(seat: u8) -> Subject
     Subject {
         kind: REMOVE,
         arguments: seat as u64,
+    }
+}
+
+pub fn rejoins(seat: u8, life: u32) -> Subject
+    ensures { λ r. ⌜ r ≡ rejoins seat life ⌝ }
+{
+    Subject {
+        kind: REJOIN,
+        arguments: seat_and_life(seat, life),
     }
 }
 

@@ -12,15 +12,16 @@ use Rattle.state.specs.declared.Subject.{Subject}
 use Rattle.state.specs.declared.Proposal.{Proposal}
 use Rattle.state.specs.Limits.{proposalRows, loginRows}
 use Rattle.state.specs.Time.{daysSince}
+use Rattle.state.specs.Subjects.{noticeDays}
 use Rattle.state.specs.Rows.{noProposal, isProposal, noLogin}
 use Rattle.state.specs.WellFormed.{cycleOf}
-use Rattle.tables.specs.Proposals.{proposalsFull, hasProposal, noticeDays, validDays, isLapsed, dropLapsed, isMature}
+use Rattle.tables.specs.Proposals.{proposalsFull, hasProposal, validDays, isLapsed, dropLapsed, isMature}
 use Rattle.tables.specs.Logins.{loginsFull}
 
--- A notice of a subject: a proposal of it, from 7 to 60 days before the announced day.
+-- A notice of a subject: a proposal of it, from 7 to 60 days before the announced day; of a rejoin, from 2 to 60.
 pub record IsNotice (x : Subject) (announced : Day) (r : Proposal) : Type 0 where
   pub same : r .subject ≡ x
-  pub days : noticeDays ≤ daysSince announced (r .day)
+  pub days : noticeDays (x .kind) ≤ daysSince announced (r .day)
   pub valid : daysSince announced (r .day) ≤ validDays
 
 -- Where the lapsed rows are dropped, the mature ones of a subject are its notices: those, and no others.

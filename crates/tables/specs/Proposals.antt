@@ -12,6 +12,7 @@ use Rattle.state.specs.declared.Subject.{Subject}
 use Rattle.state.specs.declared.Proposal.{Proposal}
 use Rattle.state.specs.Limits.{proposalRows}
 use Rattle.state.specs.Time.{daysSince, isSameCycle}
+use Rattle.state.specs.Subjects.{noticeDays}
 use Rattle.state.specs.Rows.{noProposal, isProposal}
 
 -- the last row is used
@@ -33,9 +34,6 @@ unfoldable pub dropProposal : Cycle → List Proposal → List Proposal
 dropProposal c rows = fill proposalRows noProposal (keep (λ r. not (isOfCycle c r)) rows)
 
 -- "A proposal is now ripe from 7 to 60 days and lapses on day 61.": of announced day minus proposal day
-abbrev pub noticeDays : ℕ
-noticeDays = 7
-
 abbrev pub validDays : ℕ
 validDays = 60
 
@@ -51,7 +49,7 @@ dropLapsed announced rows = fill proposalRows noProposal (keep (λ r. not (isLap
 abbrev pub isMature : Subject → Day → Proposal → Bool
 isMature x announced r =
     eqb (r .subject .kind) (x .kind)
-    && (eqb (r .subject .arguments) (x .arguments) && leb noticeDays (daysSince announced (r .day)))
+    && (eqb (r .subject .arguments) (x .arguments) && leb (noticeDays (x .kind)) (daysSince announced (r .day)))
 
 -- "the ripe proposal of lowest cycle with the same kind and arguments", or an unused row: the first, for the rows rise by cycle
 unfoldable pub matureProposal : Subject → Day → List Proposal → Proposal

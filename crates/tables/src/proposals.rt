@@ -11,10 +11,7 @@ use state::Proposal;
 use state::Subject;
 use state::limits::PROPOSAL_ROWS;
 
-// The least number of days from a proposal to the action.
-const NOTICE_DAYS: u32 = 7;
-
-// The greatest: a proposal has lapsed on the day after.
+// The greatest number of days from a proposal to the action: it has lapsed on the day after.
 const VALID_DAYS: u32 = 60;
 
 // A used row that was announced in this cycle.
@@ -40,7 +37,7 @@ fn is_mature(row: Proposal, subject: Subject, announced: Day) -> bool
     let day = row.day;
     let own = row.subject;
     (own.kind == subject.kind)
-        & ((own.arguments == subject.arguments) & (NOTICE_DAYS <= announced.since(day)))
+        & ((own.arguments == subject.arguments) & (subject.notice_days() <= announced.since(day)))
 }
 
 // Whether the last row is used.

@@ -2,14 +2,16 @@
 
 use super::announcement::{Action, Announcement};
 use super::rules::{place_of_cycle, ripe};
-use super::state::{Proposal, Seat, State, CERTIFIED, PRESENT, RETIRED};
+use super::state::{Login, Proposal, Seat, State, CERTIFIED, PRESENT, RETIRED};
 
 /// Performs an announcement that no rule refuses.
 pub fn perform(state: &mut State, announced: &Announcement) {
-    let day = announced.day;
+    let (cycle, day) = (state.cycle, announced.day);
+    if matches!(announced.kind, 4..=7) {
+        drop_proposal(state, ripe(state, announced));
+    }
     match announced.action {
         Action::Propose { kind, arguments } => {
-            let cycle = state.cycle;
             let row = Proposal {
                 cycle,
                 day,
@@ -22,45 +24,32 @@ pub fn perform(state: &mut State, announced: &Announcement) {
         Action::Presents { seat, flag } => {
             state.seats[seat].standing = if flag { PRESENT } else { CERTIFIED };
         }
-        Action::Certify {
-            seat,
-            life,
-            arguments,
-        } => {
-            state.seats[seat] = Seat {
-                standing: CERTIFIED,
-                life,
-            };
-            drop_proposal(state, ripe(state, 4, arguments, day));
+        Action::Certify { seat, life } => {
+            let standing = CERTIFIED;
+            state.seats[seat] = Seat { standing, life };
         }
         Action::Minima {
             margin,
             least,
             silence,
-            arguments,
-        } => {
-            state.margin = margin;
-            state.least = least;
-            state.silence = silence;
-            drop_proposal(state, ripe(state, 5, arguments, day));
-        }
-        Action::Remove { seat, arguments } => {
-            state.seats[seat].standing = RETIRED;
-            drop_proposal(state, ripe(state, 6, arguments, day));
-        }
+        } => (state.margin, state.least, state.silence) = (margin, least, silence),
+        Action::Remove { seat } => state.seats[seat].standing = RETIRED,
         Action::Rejoin { seat, life } => state.seats[seat].life = life,
-        Action::Grant(row) => match state.logins.place(row.login) {
-            Ok(place) => state.logins.rows[place] = row,
-            Err(place) => state.logins.insert(place, row),
-        },
+        Action::Grant(row) => grant(state, row),
         Action::End { login } => {
             if let Ok(place) = state.logins.place(login) {
                 state.logins.remove(place);
             }
         }
     }
-    state.cycle += 1;
-    state.day = day;
+    (state.cycle, state.day) = (cycle + 1, day);
+}
+
+fn grant(state: &mut State, row: Login) {
+    match state.logins.place(row.login) {
+        Ok(place) => state.logins.rows[place] = row,
+        Err(place) => state.logins.insert(place, row),
+    }
 }
 
 fn drop_proposal(state: &mut State, place: Option<usize>) {

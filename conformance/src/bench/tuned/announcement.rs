@@ -4,45 +4,23 @@ use super::bytes::{all_zero, is_record, u16_at, u32_at, u64_at};
 use super::state::Login;
 
 pub enum Action {
-    Propose {
-        kind: u16,
-        arguments: u64,
-    },
-    Cancel {
-        cycle: u32,
-    },
-    Presents {
-        seat: usize,
-        flag: bool,
-    },
-    Certify {
-        seat: usize,
-        life: u32,
-        arguments: u64,
-    },
-    Minima {
-        margin: u8,
-        least: u8,
-        silence: u16,
-        arguments: u64,
-    },
-    Remove {
-        seat: usize,
-        arguments: u64,
-    },
-    Rejoin {
-        seat: usize,
-        life: u32,
-    },
+    Propose { kind: u16, arguments: u64 },
+    Cancel { cycle: u32 },
+    Presents { seat: usize, flag: bool },
+    Certify { seat: usize, life: u32 },
+    Minima { margin: u8, least: u8, silence: u16 },
+    Remove { seat: usize },
+    Rejoin { seat: usize, life: u32 },
     Grant(Login),
-    End {
-        login: u32,
-    },
+    End { login: u32 },
 }
 
 pub struct Announcement {
+    pub kind: u16,
     pub cycle: u32,
     pub day: u32,
+    /// The first 8 argument bytes, which a proposal has too.
+    pub arguments: u64,
     pub action: Action,
 }
 
@@ -50,7 +28,7 @@ pub fn is_minima(margin: u8, least: u8, silence: u16) -> bool {
     margin <= 7 && (1..=32).contains(&least) && (1..=365).contains(&silence)
 }
 
-/// Arguments of kinds 4, 5 and 6 as a little-endian number.
+/// Arguments of kinds 4 to 7 as a little-endian number.
 pub fn is_subject(kind: u16, arguments: u64) -> bool {
     match kind {
         4 => arguments as u8 <= 31 && arguments >> 8 != 0 && arguments >> 40 == 0,
@@ -63,6 +41,7 @@ pub fn is_subject(kind: u16, arguments: u64) -> bool {
                 )
         }
         6 => arguments <= 31,
+        7 => arguments as u8 <= 31 && arguments >> 40 == 0,
         _ => false,
     }
 }
@@ -72,10 +51,13 @@ impl Announcement {
         if bytes.len() != 24 || u16_at(bytes, 0) != 22 {
             return None;
         }
-        let action = read_action(u16_at(bytes, 2), &bytes[12..])?;
+        let kind = u16_at(bytes, 2);
+        let action = read_action(kind, &bytes[12..])?;
         Some(Announcement {
+            kind,
             cycle: u32_at(bytes, 4),
             day: u32_at(bytes, 8),
+            arguments: u64_at(bytes, 12),
             action,
         })
     }
@@ -104,14 +86,7 @@ fn read_action(kind: u16, bytes: &[u8]) -> Option<Action> {
             },
             2,
         ),
-        4..=6 if is_subject(kind, u64_at(bytes, 0)) => (read_subject(kind, bytes), 8),
-        7 if first < 32 => (
-            Action::Rejoin {
-                seat: first.into(),
-                life: u32_at(bytes, 1),
-            },
-            5,
-        ),
+        4..=7 if is_subject(kind, u64_at(bytes, 0)) => (read_subject(kind, bytes), 8),
         8 => {
             let (login, rights) = (u32_at(bytes, 0), u16_at(bytes, 8));
             if login == 0 || rights == 0 {
@@ -131,23 +106,18 @@ fn read_action(kind: u16, bytes: &[u8]) -> Option<Action> {
     all_zero(&bytes[used..]).then_some(action)
 }
 
-/// Kinds 4 to 6, whose arguments are a well-formed subject.
+/// Kinds 4 to 7, whose arguments are a well-formed subject.
 fn read_subject(kind: u16, bytes: &[u8]) -> Action {
-    let arguments = u64_at(bytes, 0);
-    let seat = usize::from(bytes[0]);
+    let (seat, life) = (usize::from(bytes[0]), u32_at(bytes, 1));
     match kind {
-        4 => Action::Certify {
-            seat,
-            life: u32_at(bytes, 1),
-            arguments,
-        },
+        4 => Action::Certify { seat, life },
         5 => Action::Minima {
             margin: bytes[0],
             least: bytes[1],
             silence: u16_at(bytes, 2),
-            arguments,
         },
-        _ => Action::Remove { seat, arguments },
+        6 => Action::Remove { seat },
+        _ => Action::Rejoin { seat, life },
     }
 }
 

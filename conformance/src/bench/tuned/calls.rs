@@ -52,7 +52,7 @@ pub fn node_deliver(image: &[u8], announcement: &[u8], sheet: &[u8], out: &mut [
     }
     // The image keeps them where it is not performed.
     state.proposals.drop_lapsed(announced.day);
-    let number = action_refusal(&state, announced.day, &announced.action);
+    let number = action_refusal(&state, &announced);
     if number != 0 {
         return number;
     }

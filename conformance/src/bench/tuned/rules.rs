@@ -14,45 +14,43 @@ pub fn deliver_refusal(state: &State, own: &Own, announced: &Announcement, sheet
         a if a.cycle > state.cycle => 5,
         _ if state.cycle == u32::MAX => 6,
         a if a.day < state.day => 7,
-        a if !is_signed(state, &a.action, sheet) => 8,
+        a if !is_signed(state, a.kind, sheet) => 8,
         _ => 0,
     }
 }
 
-fn is_signed(state: &State, action: &Action, sheet: &[u8]) -> bool {
-    use Action::{Certify, Minima, Remove};
-    let level = usize::from(matches!(
-        action,
-        Certify { .. } | Minima { .. } | Remove { .. }
-    ));
+fn is_signed(state: &State, kind: u16, sheet: &[u8]) -> bool {
+    let level = usize::from(matches!(kind, 4..=6));
     let trustees = u32::from(state.trustees[level]);
     let mask = u32::from(sheet[4 + level]) & ((1 << trustees) - 1);
     2 * mask.count_ones() > trustees
 }
 
 /// Rules 9 to 14, where lapsed proposals are dropped.
-pub fn action_refusal(state: &State, day: u32, action: &Action) -> u32 {
+pub fn action_refusal(state: &State, announced: &Announcement) -> u32 {
     let is_active = |seat: usize| matches!(state.seats[seat].standing, CERTIFIED | PRESENT);
-    match *action {
+    let is_ripe = || ripe(state, announced).is_some();
+    match announced.action {
         Action::Propose { .. } if state.proposals.is_full() => 11,
         Action::Cancel { cycle } if place_of_cycle(state, cycle).is_none() => 13,
         Action::Presents { seat, flag } => presents_refusal(state, seat, flag),
         Action::Certify { seat, .. } if state.seats[seat].standing != FREE => 9,
-        Action::Certify { arguments, .. } if ripe(state, 4, arguments, day).is_none() => 10,
-        Action::Minima { arguments, .. } if ripe(state, 5, arguments, day).is_none() => 10,
+        Action::Certify { .. } if !is_ripe() => 10,
+        Action::Minima { .. } if !is_ripe() => 10,
         Action::Minima { margin, least, .. } => short(state.present, margin, least),
-        Action::Remove { seat, .. } if !is_active(seat) => 9,
-        Action::Remove { arguments, .. } if ripe(state, 6, arguments, day).is_none() => 10,
-        Action::Remove { seat, .. } => {
+        Action::Remove { seat } if !is_active(seat) => 9,
+        Action::Remove { .. } if !is_ripe() => 10,
+        Action::Remove { seat } => {
             let present = state.present - u8::from(state.seats[seat].standing == PRESENT);
             short(present, state.margin, state.least)
         }
         Action::Rejoin { seat, .. } if !is_active(seat) => 9,
+        Action::Rejoin { .. } if !is_ripe() => 10,
         Action::Rejoin { seat, life } if life <= state.seats[seat].life => 14,
         Action::Grant(row) if state.logins.is_full() && state.logins.place(row.login).is_err() => {
             11
         }
-        Action::Grant(row) if row.end < day => 14,
+        Action::Grant(row) if row.end < announced.day => 14,
         Action::End { login } if state.logins.place(login).is_err() => 13,
         _ => 0,
     }
@@ -75,13 +73,15 @@ fn short(present: u8, margin: u8, least: u8) -> u32 {
     12 * u32::from(present < quorum(present, margin, least))
 }
 
-/// The place of the first proposal of this subject that is at least 7 days old; none has lapsed.
-pub fn ripe(state: &State, kind: u16, arguments: u64, day: u32) -> Option<usize> {
-    state
-        .proposals
-        .used()
-        .iter()
-        .position(|row| row.arguments == arguments && row.kind == kind && day - row.day >= 7)
+/// The place of the first proposal with the kind and the arguments that is at least 7 days old, for a
+/// rejoin 2; none has lapsed.
+pub fn ripe(state: &State, announced: &Announcement) -> Option<usize> {
+    let least = if announced.kind == 7 { 2 } else { 7 };
+    state.proposals.used().iter().position(|row| {
+        row.arguments == announced.arguments
+            && row.kind == announced.kind
+            && announced.day - row.day >= least
+    })
 }
 
 pub fn place_of_cycle(state: &State, cycle: u32) -> Option<usize> {

@@ -1,10 +1,10 @@
 //! The claims about notices that lapse (request A3), on every call of a history: a performed delivery
-//! leaves no lapsed proposal and uses one of 7 to 60 days where it needs one; every other call leaves
-//! the state's checkpoint as it was.
+//! leaves no lapsed proposal, and one that needs a proposal uses up exactly one of 7 to 60 days, a
+//! rejoin one of 2 to 60 days (request A6); every other call leaves the state's checkpoint as it was.
 
 use super::one_call;
 use crate::compare::call::{Event, Records};
-use crate::compare::fields::{Proposal, StateFields};
+use crate::compare::fields::{notice, Proposal, StateFields};
 use crate::layout::{self, kind_of, ARGUMENTS, BODY, CHECKPOINT_SIZE, CYCLE_AND_DAY};
 
 pub fn check(event: &Event) -> Result<(), String> {
@@ -60,10 +60,12 @@ fn left(mut rows: Vec<Proposal>, announcement: &[u8]) -> Result<Vec<Proposal>, S
             let cycle = layout::number_at(announcement, ARGUMENTS, 4);
             rows.retain(|row| row.cycle != cycle);
         }
-        kind @ 4..=6 => {
+        kind @ 4..=7 => {
             let fits = |row: &Proposal| row.is_subject_of(announcement) && row.is_ripe(day);
             let used = rows.iter().position(fits);
-            let missing = || format!("kind {kind} is performed with no proposal of 7 to 60 days");
+            let least = notice(kind);
+            let missing =
+                || format!("kind {kind} is performed with no proposal of {least} to 60 days");
             rows.remove(used.ok_or_else(missing)?);
         }
         _ => {}

@@ -3,7 +3,7 @@
 use super::arguments;
 use super::random::Random;
 use super::records;
-use crate::compare::fields::{Proposal, StateFields};
+use crate::compare::fields::{notice, Proposal, StateFields};
 use crate::layout::PROPOSALS;
 
 /// Well formed and of the state's cycle.
@@ -33,7 +33,14 @@ fn content(rng: &mut Random, state: &StateFields) -> (u16, u32, [u8; 12]) {
 /// The subject of a listed proposal, around the days on which its notice ends and on which it lapses.
 fn due(rng: &mut Random, state: &StateFields) -> (u16, u32, [u8; 12]) {
     let row = state.proposals[rng.below(state.proposals.len())];
-    let age = rng.pick(&[6, 7, 7, 7, 7, 8, 60, 60, 61]);
+    let least = notice(row.kind);
+    let age = match rng.below(9) {
+        0 => least - 1,
+        1..=4 => least,
+        5 => least + 1,
+        6 | 7 => 60,
+        _ => 61,
+    };
     let day = on_age(rng, state, &row, age);
     let mut arguments = row.arguments;
     if rng.chance(4) {

@@ -15,7 +15,7 @@ pub fn any(rng: &mut Random, state: &StateFields) -> (u16, [u8; SUBJECT_SIZE]) {
     (kind, subject(rng, state, kind))
 }
 
-/// Well-formed arguments of kinds 4, 5 and 6.
+/// Well-formed arguments of kinds 4 to 7.
 pub fn subject(rng: &mut Random, state: &StateFields, kind: u16) -> [u8; SUBJECT_SIZE] {
     match kind {
         // The bytes of a certify that are also those of a minima: only the kind tells the proposals
@@ -34,7 +34,8 @@ pub fn subject(rng: &mut Random, state: &StateFields, kind: u16) -> [u8; SUBJECT
             records::subject(4, &[seat.into(), life])
         }
         5 => minima(rng, state),
-        _ => records::subject(6, &[seat_of(rng, state, &[CERTIFIED, PRESENT]).into()]),
+        6 => records::subject(6, &[seat_of(rng, state, &[CERTIFIED, PRESENT]).into()]),
+        _ => rejoin(rng, state),
     }
 }
 
@@ -97,8 +98,7 @@ pub fn arguments(rng: &mut Random, state: &StateFields, kind: u16, day: u32) -> 
             };
             records::arguments(&[seat_of(rng, state, &[fit]), flag])
         }
-        4..=6 => records::arguments(&listed_subject(rng, state, kind)),
-        7 => records::arguments(&rejoin(rng, state)),
+        4..=7 => records::arguments(&listed_subject(rng, state, kind)),
         8 => grant(rng, state, day),
         _ => records::arguments(&listed_login(rng, state).to_le_bytes()),
     }
@@ -158,13 +158,20 @@ fn well_formed(kind: u16, arguments: [u8; SUBJECT_SIZE]) -> bool {
             .all(|byte| *byte == 0)
 }
 
+/// Now and then for the seat of a listed proposal to remove or rejoin it: each stays when the other is
+/// used.
 fn rejoin(rng: &mut Random, state: &StateFields) -> [u8; SUBJECT_SIZE] {
-    let seat = seat_of(rng, state, &[CERTIFIED, PRESENT]);
+    let listed = state.proposals.iter().filter(|row| row.kind >= 6);
+    let named: Vec<u8> = listed.map(|row| row.arguments[0]).collect();
+    let seat = match rng.chance(25) && !named.is_empty() {
+        true => rng.pick(&named),
+        false => seat_of(rng, state, &[CERTIFIED, PRESENT]),
+    };
     let listed = state.seats[usize::from(seat)].life;
     let life = match rng.below(8) {
         0 => rng.near(listed),
         1 => rng.any32(),
-        2 => rng.pick(&[u32::MAX, listed]),
+        2 => rng.pick(&[u32::MAX, listed, 0]),
         3 => listed.saturating_add(rng.within(1, 1000)),
         _ => listed.saturating_add(1),
     };

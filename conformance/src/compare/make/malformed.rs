@@ -177,7 +177,7 @@ fn spoil_proposals(rng: &mut Random, state: &mut StateFields) {
         state.proposals.push(Proposal {
             cycle: state.cycle - 1,
             day: state.day,
-            kind: 6,
+            kind: rng.pick(&[6, 7]),
             arguments: [0; SUBJECT_SIZE],
         });
     }
@@ -190,7 +190,7 @@ fn spoil_proposals(rng: &mut Random, state: &mut StateFields) {
         1 => row.cycle = other.cycle,
         2 => *row = other,
         3 => row.day = rng.pick(&[day, day.saturating_add(1), u32::MAX]),
-        4 => row.kind = rng.pick(&[0, 3, 7, 4, 5, 6, 260]),
+        4 => row.kind = rng.pick(&[0, 3, 8, 4, 5, 6, 7, 260, 263]),
         5 => row.arguments[rng.below(SUBJECT_SIZE)] = rng.byte(),
         _ => {
             let changes = outside_action(row.kind, 0, SUBJECT_SIZE);

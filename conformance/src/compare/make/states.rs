@@ -7,7 +7,7 @@ use super::values;
 use crate::compare::fields::{
     Login, OwnFields, Proposal, Seat, StateFields, CERTIFIED, FREE, PRESENT, RETIRED,
 };
-use crate::layout::{LOGINS, MISSES, PROPOSALS, SEATS};
+use crate::layout::{LOGINS, MISSES, PROPOSALS, SEATS, SUBJECT_SIZE};
 use std::collections::BTreeSet;
 
 pub fn any_state(rng: &mut Random) -> StateFields {
@@ -70,10 +70,12 @@ fn set_minima(rng: &mut Random, state: &mut StateFields) {
 }
 
 /// Proposals of ages that belong together, many with the same subject, since then the lowest cycle
-/// decides.
+/// decides. Now and then all are to rejoin, mostly as many as there is room for.
 fn set_proposals(rng: &mut Random, state: &mut StateFields) {
     let most = state.cycle.min(PROPOSALS.most as u32);
+    let only = rng.chance(8).then_some(7);
     let count = match rng.below(6) {
+        0..=3 if only.is_some() => most,
         0 => 0,
         1 => most,
         2 => most.min(PROPOSALS.most as u32 - 1),
@@ -93,17 +95,24 @@ fn set_proposals(rng: &mut Random, state: &mut StateFields) {
     for cycle in cycles {
         let (low, high) = rng.pick(ages);
         let age = rng.within(low, high.min(state.day).max(low));
-        let row = proposal(rng, state, cycle, state.day.saturating_sub(age));
-        state.proposals.push(row);
+        let day = state.day.saturating_sub(age);
+        let (kind, arguments) = subject(rng, state, only);
+        state.proposals.push(Proposal {
+            cycle,
+            day,
+            kind,
+            arguments,
+        });
     }
 }
 
-/// Lowest and highest ages of the proposals of a state, on the agreed day: around the 7 days of
-/// notice, none lapsed, around the day on which they lapse, all lapsed, and of every sort. The last
-/// have ages that are small when they are cut to 8 or 16 bits.
-const AGES: [&[(u32, u32)]; 7] = [
-    &[(0, 0), (4, 9), (4, 9)],
-    &[(0, 0), (4, 9), (4, 9), (0, u32::MAX)],
+/// Lowest and highest ages of the proposals of a state, on the agreed day: around the 2 and the 7
+/// days of notice, none lapsed, around the day on which they lapse, all lapsed, and of every sort. The
+/// last have ages that are small when they are cut to 8 or 16 bits.
+const AGES: [&[(u32, u32)]; 8] = [
+    &[(0, 3)],
+    &[(0, 3), (4, 9), (4, 9)],
+    &[(0, 3), (4, 9), (4, 9), (0, u32::MAX)],
     &[(0, 60)],
     &[(4, 9), (58, 62)],
     &[(4, 9), (61, 61), (62, 400)],
@@ -111,19 +120,15 @@ const AGES: [&[(u32, u32)]; 7] = [
     &[(0, 9), (60, 61), (256, 316), (65_536, 65_596)],
 ];
 
-fn proposal(rng: &mut Random, state: &StateFields, cycle: u32, day: u32) -> Proposal {
-    let (kind, arguments) = match state.proposals.len() {
-        used if used > 0 && rng.chance(45) => {
+/// A subject, of one kind only where that is given; many are those of earlier proposals.
+fn subject(rng: &mut Random, state: &StateFields, only: Option<u16>) -> (u16, [u8; SUBJECT_SIZE]) {
+    match (state.proposals.len(), only) {
+        (used, _) if used > 0 && rng.chance(45) => {
             let earlier = state.proposals[rng.below(used)];
             (earlier.kind, earlier.arguments)
         }
-        _ => arguments::any(rng, state),
-    };
-    Proposal {
-        cycle,
-        day,
-        kind,
-        arguments,
+        (_, Some(kind)) => (kind, arguments::subject(rng, state, kind)),
+        (_, None) => arguments::any(rng, state),
     }
 }
 

@@ -4,11 +4,12 @@
 use super::doors::Doors;
 use super::notices::Notices;
 use super::ranges::{Range, ANNOUNCED, ASKED, DATES, HEAD, OWN_MISSES, PERFORMED, RANGES};
+use super::restarts::Restarts;
 use super::rosters::Rosters;
 use crate::compare::call::{Outcome, Records, Request, CALLS, VOTED};
 use crate::compare::fields::{Login, OwnFields, Seat, StateFields};
 use crate::layout::{self, kind_of, query_fields, BODY, CHECKPOINT, CYCLE_AND_DAY, MASKS, ROW};
-use crate::layout::{ROWS, ROW_SIZE, START};
+use crate::layout::{REJOIN, ROWS, ROW_SIZE, START};
 
 pub struct Coverage {
     pub calls: u64,
@@ -22,6 +23,7 @@ pub struct Coverage {
     pub high: Vec<u64>,
     /// Of histories only.
     pub notices: Notices,
+    pub restarts: Restarts,
     /// Of histories, and what is refused by 1 of all calls.
     pub doors: Doors,
     pub rosters: Rosters,
@@ -39,6 +41,7 @@ impl Coverage {
             low: none.clone(),
             high: none,
             notices: Notices::new(),
+            restarts: Restarts::new(),
             doors: Doors::new(),
             rosters: Rosters::new(),
         }
@@ -208,9 +211,14 @@ impl Coverage {
         self.performed[kind] += 1;
         self.meet_all(&[Range::DoneCycle, Range::DoneDay], &[cycle, day]);
         self.meet_all(PERFORMED[kind], &arguments);
-        if (kind, arguments[0]) == (1, 4) {
-            let seat = bytes[layout::ARGUMENTS + layout::SUBJECT_KIND.size];
-            self.meet(Range::DoneSubjectSeat, seat);
+        let subject = layout::ARGUMENTS + layout::SUBJECT_KIND.size;
+        match (kind, arguments[0]) {
+            (1, 4) => self.meet(Range::DoneSubjectSeat, bytes[subject]),
+            (1, 7) => {
+                let ranges = [Range::DoneSubjectRejoin, Range::DoneSubjectLife];
+                self.meet_all(&ranges, &layout::values(&REJOIN, bytes, subject));
+            }
+            _ => {}
         }
     }
 }

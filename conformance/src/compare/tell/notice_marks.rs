@@ -1,5 +1,5 @@
-//! What the histories must meet of notices that lapse (request A3). An age is the announced day minus
-//! the proposal's.
+//! What the histories must meet of notices that lapse (request A3), also of those for a rejoin (request
+//! A6). An age is the announced day minus the proposal's.
 
 use super::marks::marks;
 
@@ -17,6 +17,10 @@ marks! {
         Remove7 "remove after 7 days";
         Remove60 "remove after 60 days";
         Remove61 "remove after 61 days, no 10";
+        Rejoin1 "rejoin after 1 day, no 10";
+        Rejoin2 "rejoin after 2 days";
+        Rejoin60 "rejoin after 60 days";
+        Rejoin61 "rejoin after 61 days, no 10";
         BehindLapsed "behind a lapsed equal one";
     }
     "notices cancelled" {
@@ -50,8 +54,8 @@ marks! {
     }
 }
 
-/// By kind, from 4: a use at the edges of 7 and of 60 days.
-pub const USED: [[Mark; 4]; 3] = [
+/// By kind, from 4: a use at the edges of 7, for a rejoin 2, and of 60 days.
+pub const USED: [[Mark; 4]; 4] = [
     [
         Mark::Certify6,
         Mark::Certify7,
@@ -60,6 +64,7 @@ pub const USED: [[Mark; 4]; 3] = [
     ],
     [Mark::Minima6, Mark::Minima7, Mark::Minima60, Mark::Minima61],
     [Mark::Remove6, Mark::Remove7, Mark::Remove60, Mark::Remove61],
+    [Mark::Rejoin1, Mark::Rejoin2, Mark::Rejoin60, Mark::Rejoin61],
 ];
 
 /// By kind, from 1: a performed action that drops a lapsed row.

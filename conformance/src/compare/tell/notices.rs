@@ -3,7 +3,7 @@
 use super::marks::Counts;
 use super::notice_marks::{Mark, DROPPED, USED};
 use crate::compare::call::{Outcome, Records, Request, VOTED};
-use crate::compare::fields::{Proposal, StateFields};
+use crate::compare::fields::{notice, Proposal, StateFields};
 use crate::layout::{self, kind_of, ARGUMENTS, BODY, CYCLE_AND_DAY, PROPOSALS};
 
 pub type Notices = Counts<Mark>;
@@ -36,7 +36,7 @@ impl Notices {
         match kind {
             1 => self.note_proposed(rows, day, number),
             2 => self.note_cancelled(rows, announcement, day, number),
-            4..=6 => self.note_used(rows, announcement, day, number),
+            4..=7 => self.note_used(rows, announcement, day, number),
             _ => {}
         }
         if rows.iter().any(|row| row.is_lapsed(day)) {
@@ -73,9 +73,11 @@ impl Notices {
         ]);
     }
 
-    /// Kinds 4, 5 and 6.
+    /// Kinds 4 to 7.
     fn note_used(&mut self, rows: &[Proposal], announcement: &[u8], day: u32, number: u32) {
-        let [on_6, on_7, on_60, on_61] = USED[usize::from(kind_of(announcement)) - 4];
+        let kind = kind_of(announcement);
+        let [early, first, on_60, on_61] = USED[usize::from(kind) - 4];
+        let least = i64::from(notice(kind));
         let equal = rows.iter().filter(|row| row.is_subject_of(announcement));
         let has = |age: i64| equal.clone().any(|row| row.age(day) == age);
         let used = equal.clone().find(|row| row.is_ripe(day));
@@ -86,8 +88,8 @@ impl Notices {
         };
         let age = used.map(|row| row.age(day));
         self.meet_if(&[
-            (number == 10 && has(6), on_6),
-            (number == 0 && age == Some(7), on_7),
+            (number == 10 && has(least - 1), early),
+            (number == 0 && age == Some(least), first),
             (number == 0 && age == Some(60), on_60),
             (number == 10 && has(61), on_61),
             (number == 0 && is_behind, Mark::BehindLapsed),

@@ -77,6 +77,8 @@ ranges! {
     EndedLogin argument(9, 0), "end: login";
     DonePropose of(SUBJECT_KIND), "performed propose: subject kind";
     DoneSubjectSeat argument(4, 0), "performed propose: seat to certify";
+    DoneSubjectRejoin argument(7, 0), "performed propose: seat to rejoin";
+    DoneSubjectLife argument(7, 1), "performed propose: life to rejoin under";
     DoneCancel (0, MAX - 2), "performed cancel: cycle";
     DonePresents argument(3, 0), "performed presents: seat";
     DoneFlag argument(3, 1), "performed presents: flag";

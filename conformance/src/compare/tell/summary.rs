@@ -22,6 +22,7 @@ impl Coverage {
                 low.into_iter().chain(high)
             });
         let marks = self.notices.missing().into_iter();
+        let marks = marks.chain(self.restarts.missing());
         let marks = marks.chain(self.doors.missing());
         let marks = marks.chain(self.rosters.missing());
         calls.chain(kinds).chain(ends).chain(marks).collect()
@@ -57,6 +58,7 @@ impl Coverage {
             lines.push(format!("kinds {name}  {}", counts.join("  ")));
         }
         lines.extend(self.notices.summary());
+        lines.extend(self.restarts.summary());
         lines.extend(self.doors.summary());
         lines.extend(self.rosters.summary());
         lines

@@ -57,12 +57,12 @@ fn action(bytes: &mut Bytes, kind: u16, end: usize, text: &mut String) -> Read<(
     bytes.unused(end)
 }
 
-/// "subject kind 2 (4, 5 or 6), its first 8 argument bytes"
+/// "subject kind 2 (4, 5 or 6), its first 8 argument bytes", or 7 (request A6).
 pub fn subject(bytes: &mut Bytes, text: &mut String) -> Read<()> {
     let at = bytes.at;
     match bytes.number(SUBJECT_KIND.size)? as u16 {
-        kind @ 4..=6 => action(bytes, kind, at + SUBJECT_KIND.size + SUBJECT_SIZE, text),
-        kind => malformed(at, format!("subject kind {kind} is not 4, 5 or 6")),
+        kind @ 4..=7 => action(bytes, kind, at + SUBJECT_KIND.size + SUBJECT_SIZE, text),
+        kind => malformed(at, format!("subject kind {kind} is not 4, 5, 6 or 7")),
     }
 }
 

@@ -37,9 +37,11 @@ announce cycle 1 day 2 grant login 0 end 6 rights 1
   login 0 is below 1, at byte 12
 announce cycle 1 day 2 grant login 5 end 6 rights
   rights name none, at byte 20
-announce cycle 1 day 2 propose rejoin seat 1 life 2
-  subject kind 7 is not 4, 5 or 6, at byte 12
+announce cycle 1 day 2 propose presents seat 1 flag 1
+  subject kind 3 is not 4, 5, 6 or 7, at byte 12
 announce cycle 1 day 2 propose certify seat 32 life 1
+  seat 32 is not in 0 to 31, at byte 14
+announce cycle 1 day 2 propose rejoin seat 32 life 0
   seat 32 is not in 0 to 31, at byte 14
 sheet level-1 level-2 rows 0:1 32:1
   seat 32 is not in 0 to 31, at byte 12
@@ -73,6 +75,10 @@ bytes 16 00 09 00 01 00 00 00 01 00 00 00 05 00 00 00 00 00 00 00 00 00 00 07
   the unused byte is 07, not 00, at byte 23
 bytes 16 00 01 00 01 00 00 00 01 00 00 00 06 00 05 07 00 00 00 00 00 00 00 00
   the unused byte is 07, not 00, at byte 15
+bytes 16 00 01 00 01 00 00 00 01 00 00 00 07 00 05 07 00 00 00 01 00 00 00 00
+  the unused byte is 01, not 00, at byte 19
+bytes 16 00 01 00 01 00 00 00 01 00 00 00 08 00 05 07 00 00 00 00 00 00 00 00
+  subject kind 8 is not 4, 5, 6 or 7, at byte 12
 ";
 
 /// What compose warns of for a text below another one.
@@ -147,7 +153,9 @@ proposal cycle 0 day 101 remove seat 2
 proposal cycle 0 day 9 remove seat 2 / proposal cycle 0 day 9 remove seat 2
   proposals do not rise at cycle 0, at byte 197
 proposal cycle 0 day 9 cancel cycle 2
-  subject kind 2 is not 4, 5 or 6, at byte 187
+  subject kind 2 is not 4, 5, 6 or 7, at byte 187
+proposal cycle 0 day 9 rejoin seat 32 life 0
+  seat 32 is not in 0 to 31, at byte 189
 proposal cycle 0 day 9 minima m 0 k 1 S 0
   S 0 is not in 1 to 365, at byte 191
 login 0 end 9 rights 1

@@ -55,11 +55,11 @@ announce cycle 1 day 2 grant login 5 end 6 rights 0,3
 announce cycle 1 day 2 minima m 0 k 1 S 65536
   41: S 65536 does not fit: 0 to 65535
 announce cycle 1 day 2 propose
-  31: the line ends: certify, minima or remove is expected
+  31: the line ends: certify, minima, remove or rejoin is expected
 announce cycle 1 day 2 propose grant login 5 end 6 rights 0
   32: `grant` has 10 argument bytes, a subject 8
 announce cycle 1 day 2 propose propose remove seat 1
-  32: `propose` is not understood: certify, minima or remove is expected
+  32: `propose` is not understood: certify, minima, remove or rejoin is expected
 sheet level-1 8 level-2 rows
   15: level-1 8 does not fit: 0 to 7
 sheet level-1 0 level-2 1 1 rows

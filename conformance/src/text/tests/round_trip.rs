@@ -62,6 +62,22 @@ fn well_formed_records() {
     }
 }
 
+/// Both ends of a life that is proposed: in a propose and in a checkpoint.
+#[test]
+fn proposals_to_rejoin() {
+    for life in [0, u32::MAX] {
+        let text = format!(
+            "announce cycle 1 day 2 propose rejoin seat 31 life {life}\n\
+            checkpoint cycle 4 day 100 trustees 1 1 m 0 k 1 S 30\n  seat 0 present life 1\n  \
+            proposal cycle 3 day 98 rejoin seat 31 life {life}\n"
+        );
+        let bytes = compose(&text).unwrap();
+        assert!(all_read_by_paper(&bytes));
+        check(&bytes, true);
+        assert_eq!(show(&bytes).text, text);
+    }
+}
+
 #[test]
 fn damaged_records() {
     let mut rng = Random::new(2);

@@ -38,6 +38,9 @@ drop-proposal-requires-4 c κs = search needs
 enum-known-action-7 : tie.Need-enum-known-action-7
 enum-known-action-7 c = search needs
 
+drop-proposal-requires-5 : tie.Need-drop-proposal-requires-5
+drop-proposal-requires-5 c κs = search needs
+
 enum-known-action-8 : tie.Need-enum-known-action-8
 enum-known-action-8 c = search needs
 
@@ -63,7 +66,7 @@ returns-6 : tie.Need-returns-6
 returns-6 c = rw (c .before .before .action6 .given .1) (c .drop-proposal4 .ensures)
 
 returns-7 : tie.Need-returns-7
-returns-7 c = rw (c .before .action7 .given .1)
+returns-7 c = rw (c .before .before .action7 .given .1) (c .drop-proposal5 .ensures)
 
 returns-8 : tie.Need-returns-8
 returns-8 c = rw (c .before .action8 .given .1)
@@ -87,6 +90,7 @@ proposals-after-spec =
     enum-known-action-6
     drop-proposal-requires-4
     enum-known-action-7
+    drop-proposal-requires-5
     enum-known-action-8
     enum-known-action-9
     returns

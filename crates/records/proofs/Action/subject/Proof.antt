@@ -32,6 +32,9 @@ removes-requires c κs = search needs
 enum-known-self-7 : tie.Need-enum-known-self-7
 enum-known-self-7 c = search needs
 
+rejoins-requires : tie.Need-rejoins-requires
+rejoins-requires c κs = search needs
+
 enum-known-self-8 : tie.Need-enum-known-self-8
 enum-known-self-8 c = search needs
 
@@ -57,7 +60,7 @@ returns-6 : tie.Need-returns-6
 returns-6 c = rw (c .before .before .self6 .given .1) (c .removes .ensures)
 
 returns-7 : tie.Need-returns-7
-returns-7 c = rw (c .before .self7 .given .1)
+returns-7 c = rw (c .before .before .self7 .given .1) (c .rejoins .ensures)
 
 returns-8 : tie.Need-returns-8
 returns-8 c = rw (c .before .self8 .given .1)
@@ -79,6 +82,7 @@ subject-spec =
     enum-known-self-6
     removes-requires
     enum-known-self-7
+    rejoins-requires
     enum-known-self-8
     enum-known-self-9
     returns

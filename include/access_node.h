@@ -63,10 +63,9 @@ extern "C" {
  * lapse after 60 days: no record changes, but the rules do. In edition 5 each door has its own
  * misses: a query of kind 21 names its door, and the image grows by 3 bytes; an image of 1,139
  * bytes, as earlier editions wrote it, is malformed. In edition 6 a rejoin needs a proposal, of
- * subject kind 7: every checkpoint of an earlier edition is read as before, and so is an image of
- * edition 5, but a checkpoint with such a proposal is malformed in the earlier ones. All nodes of a
- * park run under the same rules: those of editions 1 to 3, of edition 4, of edition 5, or of
- * edition 6. */
+ * subject kind 7: every checkpoint of an earlier edition is read as before, but one with such a
+ * proposal is malformed in those. All nodes of a park run under the same rules: those of editions
+ * 1 to 3, of edition 4, of edition 5, or of edition 6. */
 #define ACCESS_NODE_EDITION 6
 
 /* Sizes of whole records. A sheet has 0 to ACCESS_NODE_MOST_ROWS rows. */

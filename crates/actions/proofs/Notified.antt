@@ -32,7 +32,7 @@ use Rattle.actions.specs.Claims.{WellFormed, AlwaysNotified, NoneOlder}
 use Rattle.actions.proofs.Sound.{sound-of, without-lapsed}
 
 -- A used row that is left after a drop was there before, and is of another cycle.
-of-drop : (c : Cycle) {r : Proposal} (rows : List Proposal) → isProposal r ≡ true → List·Memᴰ r (dropProposal c rows)
+pub of-drop : (c : Cycle) {r : Proposal} (rows : List Proposal) → isProposal r ≡ true → List·Memᴰ r (dropProposal c rows)
     → List·Memᴰ r rows × (isOfCycle c r ≡ false)
 unfolding dropProposal
 of-drop c rows u m = let h = left-of (λ x. not (isOfCycle c x)) rows u m in (h .0, not-true _ (h .1))

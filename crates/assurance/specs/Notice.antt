@@ -4,11 +4,13 @@ use mathlib.Core.Logic.{_≢_}
 use mathlib.Core.Bool.{true}
 use mathlib.Core.List.{List, List·Memᴰ}
 use Prim.Native.Nat.{ℕ}
+use Rattle.state.specs.declared.Cycle.{Cycle}
 use Rattle.state.specs.declared.Proposal.{Proposal}
 use Rattle.state.specs.declared.State.{State}
 use Rattle.state.specs.Trustees.{isMajority}
+use Rattle.state.specs.Rows.{isProposal}
 use Rattle.records.specs.declared.Announcement.{Announcement}
-use Rattle.records.specs.declared.Action.the-variants.{Propose}
+use Rattle.records.specs.declared.Action.the-variants.{Propose, Cancel}
 use Rattle.records.specs.Actions.{subjectOf}
 use Rattle.records.specs.Sheet.{level1, level2}
 use Rattle.checkpoint.specs.Checkpoint.{readCheckpoint}
@@ -49,3 +51,9 @@ pub record Noticed (first : State) (calls : History) (u : State) (b : Announceme
 abbrev pub AlwaysNoticed : Type 0
 AlwaysNoticed = (first : List ℕ) (calls : History) → Park first calls
     → (u : State) (b : Announcement) (x : Step calls u b) → subjectOf (b .action) .kind ≢ 0 → Noticed (readCheckpoint first .state) calls u b x
+
+-- A cancelled proposal serves no action: no state after the cancel lists a proposal of that cycle.
+abbrev pub CancelledNeverListed : Type 0
+CancelledNeverListed = (first : List ℕ) (calls : History) → Park first calls
+    → (u : State) (b : Announcement) → Step calls u b → (c : Cycle) → b .action ≡ Cancel c
+    → (v : State) → Reached (perform u b) (Step calls) v → (r : Proposal) → isProposal r ≡ true → r .cycle ≡ c → ¬ Listed r v

@@ -25,11 +25,11 @@ abbrev pub reply : ℕ → ℕ → List ℕ → DeliverReply
 reply d life sheet = deliverOf (proposed (rejoins 1 2) firstState) (announce 2 d (Rejoin 1 life)) sheet
 
 -- two proposals for seat 1, under life 2 and under life 3, in the checkpoint of a start
-abbrev pub proposalOf : ℕ → Proposal
-proposalOf life = record { cycle = cycle life; day = day 101; subject = rejoins 1 life }
+abbrev pub proposedUnder : ℕ → Proposal
+proposedUnder life = record { cycle = cycle life; day = day 101; subject = rejoins 1 life }
 
 abbrev pub proposedTwice : Node
-proposedTwice = started (withTime (cycle 4) (day 101) (withProposals (rows (proposalOf 2 ∷ proposalOf 3 ∷ []) 14) firstState))
+proposedTwice = started (withTime (cycle 4) (day 101) (withProposals (rows (proposedUnder 2 ∷ proposedUnder 3 ∷ []) 14) firstState))
 
 pub record RestartExamples : Type 0 where
   -- "ripe from 2 to 60 days": after 1 day and 2, 60 and 61
@@ -49,4 +49,4 @@ pub record RestartExamples : Type 0 where
   pub raised : seatAt 1 (reply 103 2 twoVotes .node .state .seats) ≡ record { standing = present; life = 2 }
   pub used-up : reply 103 2 twoVotes .node .state .proposals ≡ replicate proposalRows noProposal
   -- of two proposals for the seat the other stays
-  pub one-used : deliverOf proposedTwice (announce 4 103 (Rejoin 1 2)) twoVotes .node .state .proposals ≡ rows (proposalOf 3 ∷ []) 15
+  pub one-used : deliverOf proposedTwice (announce 4 103 (Rejoin 1 2)) twoVotes .node .state .proposals ≡ rows (proposedUnder 3 ∷ []) 15

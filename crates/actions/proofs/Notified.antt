@@ -32,10 +32,15 @@ use Rattle.actions.specs.Claims.{WellFormed, AlwaysNotified, NoneOlder}
 use Rattle.actions.proofs.Sound.{sound-of, without-lapsed}
 
 -- A used row that is left after a drop was there before, and is of another cycle.
-pub of-drop : (c : Cycle) {r : Proposal} (rows : List Proposal) → isProposal r ≡ true → List·Memᴰ r (dropProposal c rows)
+of-drop : (c : Cycle) {r : Proposal} (rows : List Proposal) → isProposal r ≡ true → List·Memᴰ r (dropProposal c rows)
     → List·Memᴰ r rows × (isOfCycle c r ≡ false)
 unfolding dropProposal
 of-drop c rows u m = let h = left-of (λ x. not (isOfCycle c x)) rows u m in (h .0, not-true _ (h .1))
+
+-- No used row of that cycle is left.
+pub drop-gone : (c : Cycle) {r : Proposal} (rows : List Proposal) → isProposal r ≡ true → r .cycle ≡ c → ¬ List·Memᴰ r (dropProposal c rows)
+drop-gone c {r} rows u e m =
+    false≢true (sym (of-drop c rows u m .1) ∙ rw (u, eq-eqb (r .cycle .0) (c .0) (ap (λ (z : Cycle). z .0) e)))
 
 -- the row of a propose
 abbrev pub rowOf : State → Day → Subject → Proposal
@@ -100,9 +105,7 @@ module _ (s : State) (a : Announcement) (w : WellFormed s) (k : subjectOf (a .ac
   after = used-table (withoutLapsed (a .day) s) (a .day) (a .action) k
 
   gone : ¬ List·Memᴰ used (perform s a .proposals)
-  gone m =
-      let h = of-drop (used .cycle) left is-used (subst (List·Memᴰ used) after m) .1 in
-      false≢true (sym h ∙ rw (is-used, eq-eqb (used .cycle .0) (used .cycle .0) refl))
+  gone m = drop-gone (used .cycle) left is-used refl (subst (List·Memᴰ used) after m)
 
   others : (r : Proposal) → List·Memᴰ r (s .proposals) → isProposal r ≡ true → r ≢ used → isLapsed (a .day) r ≡ false
       → List·Memᴰ r (perform s a .proposals)

@@ -1,11 +1,11 @@
 -- Where the notice of an action that has a subject comes from, that it is used once, and that a cancelled one is not used.
 use mathlib.Core.Path.{_≡_, sym, ap, _∙_, subst}
 use mathlib.Core.Logic.{_⊎_, inl, inr}
-use mathlib.Core.Bool.{true, and-eq-true-iff, false≢true}
+use mathlib.Core.Bool.{true, and-eq-true-iff}
 use mathlib.Core.List.{List, List·Memᴰ}
 use Prim.Native.Nat.{ℕ, suc, _<_}
 use native.Mathlib.Omega.{arith}
-use borrow.Author.Tests.{eqb-true, eq-eqb}
+use borrow.Author.Tests.{eqb-true}
 use Rattle.lists.proofs.Every.{any-of}
 use Rattle.lists.proofs.Members.{all-in}
 use Rattle.state.specs.declared.Day.{Day}
@@ -22,13 +22,17 @@ use Rattle.checkpoint.specs.Checkpoint.{readCheckpoint}
 use Rattle.actions.specs.Perform.{effect, useProposal, act, advance, withoutLapsed, perform}
 use Rattle.actions.specs.Claims.{WellFormed, Signed}
 use Rattle.actions.proofs.Sound.{sound-of}
-use Rattle.actions.proofs.Notified.{of-drop, rowOf, before}
+use Rattle.actions.proofs.Notified.{drop-gone, rowOf, before}
 use Rattle.agreement.specs.History.{History}
 use Rattle.agreement.specs.Claims.{Park}
 use Rattle.agreement.specs.Chain.{Step, Reached, origin, next}
 use Rattle.agreement.proofs.Demand.{advances}
 use Rattle.assurance.specs.Notice.{Listed, Proposed, at-first, announced, AlwaysNoticed, CancelledNeverListed}
 use Rattle.assurance.proofs.Facts.{step-well-formed, step-signed, step-notified, step-found, step-reached}
+
+-- A proposal that a well-formed state lists is of an earlier cycle.
+earlier-cycle : (s : State) (r : Proposal) → WellFormed s → isProposal r ≡ true → Listed r s → r .cycle .0 < s .cycle .0
+earlier-cycle s r w used listed = well-formed-proposed (s .cycle) (s .day) r (all-in (sound-of s w .proposals .each) listed .1) used .cycle
 
 -- ---- a step
 
@@ -90,8 +94,7 @@ always-noticed first calls park u b x z =
     let n = step-notified first calls park u b x z in
     let r = n .proposal in
     let used = subject-used r z (n .notice .same) in
-    let w = step-well-formed first calls park u b x in
-    let earlier = well-formed-proposed (u .cycle) (u .day) r (all-in (sound-of u w .proposals .each) (n .listed) .1) used .cycle in
+    let earlier = earlier-cycle u r (step-well-formed first calls park u b x) used (n .listed) in
     let c = advances first calls park u b x .next in
     record {
       row = r;
@@ -108,9 +111,7 @@ always-noticed first calls park u b x z =
 cancel-drops : (u : State) (b : Announcement) (c : Cycle) (r : Proposal) → b .action ≡ Cancel c → isProposal r ≡ true → r .cycle ≡ c
     → ¬ Listed r (perform u b)
 unfolding perform advance act effect useProposal
-cancel-drops u b c r e used same m =
-    let left = of-drop c (dropLapsed (b .day) (u .proposals)) used (rw e at m) .1 in
-    false≢true (sym left ∙ rw (used, eq-eqb (r .cycle .0) (c .0) (ap (λ (z : Cycle). z .0) same)))
+cancel-drops u b c r e used same m = drop-gone c (dropLapsed (b .day) (u .proposals)) used same (rw e at m)
 
 -- A cancel found a proposal of its cycle, which lies before that of its state.
 cancel-found : (s : State) (d : Day) (c : Cycle) → WellFormed s → hasProposal c (dropLapsed d (s .proposals)) ≡ true → c .0 < s .cycle .0
@@ -119,16 +120,14 @@ cancel-found s d c w found =
     let some = any-of (isOfCycle c) (dropLapsed d (s .proposals)) found in
     let q = some .0 in
     let t = and-eq-true-iff (isProposal q) _ .0 (some .2) in
-    let listed = only-lapsed-go d (s .proposals) q (t .0) .was (some .1) .0 in
-    let earlier = well-formed-proposed (s .cycle) (s .day) q (all-in (sound-of s w .proposals .each) listed .1) (t .0) .cycle in
+    let earlier = earlier-cycle s q w (t .0) (only-lapsed-go d (s .proposals) q (t .0) .was (some .1) .0) in
     let same = eqb-true (q .cycle .0) (c .0) (t .1) in
     omega arith
 
 pub cancelled-never-listed : CancelledNeverListed
 cancelled-never-listed first calls park u b x c e v R r used same =
-    let w = step-well-formed first calls park u b x in
     let found = rw e at (step-found first calls park u b x) in
-    let earlier = cancel-found u (b .day) c w found in
+    let earlier = cancel-found u (b .day) c (step-well-formed first calls park u b x) found in
     let n = advances first calls park u b x .next in
     let at = ap (λ (z : Cycle). z .0) same in
     stays-over first calls park r used (record { passed = omega arith; gone = cancel-drops u b c r e used same }) R .gone

@@ -175,7 +175,8 @@ pub data Applies : Asked → ℕ → Type 0 where
       → isSigned (n .state) (levelOf (kindOf (a .action))) (level1 sb) (level2 sb) ≡ false → Applies (at n (deliver ab sb)) 8
   -- 9 "seat's standing unfit (kinds 3, 4, 6, 7; start: free or retired)"
   no-9 : {x : Asked} → Unfit x → Applies x 9
-  -- 10 "no ripe proposal", for the kinds that have a subject: 4, 5 and 6, none "from 7 to 60 days"; "Rule 10 now covers kind 7", none "from 2 to 60 days"
+  -- 10 "no ripe proposal", for the kinds that have a subject: 4, 5 and 6, none "from 7 to 60 days"; "Rule 10 now covers kind 7", none "from 2 to
+  -- 60 days"
   no-10 : {n : Node} {ab sb : List ℕ} {a : Announcement} → Announces ab a → subjectOf (a .action) .kind ≢ 0
       → ((r : Proposal) → List·Memᴰ r (n .state .proposals) → ¬ IsNotice (subjectOf (a .action)) (a .day) r) → Applies (at n (deliver ab sb)) 10
   -- 11 "table full and the row is needed"

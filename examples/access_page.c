@@ -65,7 +65,7 @@ int main(int words, char **word) {
     if (length == SIZE_MAX)
         return refuse(WRONG_USE, strerror(errno), word[1]);
     if (length != ACCESS_NODE_IMAGE_SIZE)
-        return refuse(NO_IMAGE, "the file is no image, which has 1,142 bytes", word[1]);
+        return refuse(NO_IMAGE, "the file is no image, which has 1,144 bytes", word[1]);
     uint32_t returned = node_page(image, length, day, page, sizeof page);
     if (ACCESS_NODE_ANSWER(returned) != ACCESS_NODE_OK)
         return refuse(NO_IMAGE, "the file is no well-formed image; `records show --image` says why",

@@ -1,7 +1,7 @@
 /* How firmware uses the node: three hubs are commissioned, grant a login by vote, answer queries
  * and end the login again; wrong entries lock one door of a hub and not the other; one hub is lost
  * and comes back from a checkpoint, under a new life, which votes once the park has voted a rejoin,
- * two days after its proposal.
+ * two days after its proposal; the park sets notices of its own.
  *
  * The radio and the seal module are played by this program: what a hub votes for is put on the next
  * sheet as a row.
@@ -13,6 +13,9 @@
 #include <string.h>
 
 enum { HUBS = 3, RIGHT = 0, LOGIN = 501, WRONG_LOGIN = 105, PRESENT = 2, MOST_MISSES = 10 };
+
+/* The place of a record's kind; its upper byte is 0. */
+enum { KIND_AT = 2 };
 
 /* What a hub keeps from call to call. Two buffers, since no call works in place. */
 struct hub {
@@ -51,27 +54,33 @@ static uint32_t keep(struct hub *hub, uint32_t returned) {
     return ACCESS_NODE_ANSWER(returned);
 }
 
-static uint32_t start_hub(int seat, uint32_t life, const uint8_t *checkpoint) {
+static uint32_t start_hub(int seat, uint32_t life, const uint8_t *checkpoint, size_t length) {
     uint8_t start[ACCESS_NODE_START_SIZE];
     put(put(put_head(start, sizeof start, ACCESS_NODE_KIND_START), (uint32_t)seat, 1), life, 4);
     struct hub *hub = &hubs[seat];
-    return keep(hub, node_start(checkpoint, ACCESS_NODE_CHECKPOINT_SIZE, start, sizeof start,
+    return keep(hub, node_start(checkpoint, length, start, sizeof start,
                                 hub->next, sizeof hub->next));
 }
 
-/* Delivers an announcement with a sheet that has trustee 0 of level 1, and a row at life 1 for each
- * of the first `rows` seats. */
+/* Delivers an announcement with a sheet that has trustee 0 of both levels, and a row at life 1 for
+ * each of the first `rows` seats. */
 static uint32_t deliver(int seat, const uint8_t *announcement, int rows) {
     uint8_t sheet[ACCESS_NODE_SHEET_SIZE(HUBS)];
     size_t size = (size_t)ACCESS_NODE_SHEET_SIZE(rows);
     uint8_t *at = put_head(sheet, size, ACCESS_NODE_KIND_SHEET);
-    at = put(put(put(at, 1, 1), 0, 1), (uint32_t)rows, 1);
+    at = put(put(put(at, 1, 1), 1, 1), (uint32_t)rows, 1);
     for (int row = 0; row < rows; row++)
         at = put(put(at, (uint32_t)row, 1), 1, 4);
     struct hub *hub = &hubs[seat];
     return keep(hub, node_deliver(hub->image, sizeof hub->image,
                                   announcement, ACCESS_NODE_ANNOUNCEMENT_SIZE, sheet, size,
                                   hub->next, sizeof hub->next));
+}
+
+/* Each hub performs what seats 0 and 1 voted for. */
+static void all_perform(const char *what, const uint8_t *announcement) {
+    for (int seat = 0; seat < HUBS; seat++)
+        step(what, deliver(seat, announcement, 2), ACCESS_NODE_OK);
 }
 
 /* What the panel of a door asks. A hub with one door may use ACCESS_NODE_KIND_QUERY instead, which
@@ -96,10 +105,11 @@ static uint8_t *announce(uint8_t *record, uint32_t kind, uint32_t cycle, uint32_
 }
 
 /* The park's first checkpoint: cycle 1, day 100, one trustee per level, m 0, k 2, S 30, three
- * present seats at life 1, empty lists. */
-static void first_checkpoint(uint8_t *checkpoint) {
-    memset(checkpoint, 0, ACCESS_NODE_CHECKPOINT_SIZE);
-    uint8_t *at = put_head(checkpoint, ACCESS_NODE_CHECKPOINT_SIZE, ACCESS_NODE_KIND_CHECKPOINT);
+ * present seats at life 1, empty lists. It was made before there were notices, so these are 7 and 2
+ * days. A new park names its own behind S, under ACCESS_NODE_KIND_CHECKPOINT. */
+static void first_checkpoint(uint8_t *checkpoint, size_t length) {
+    memset(checkpoint, 0, length);
+    uint8_t *at = put_head(checkpoint, length, ACCESS_NODE_KIND_EARLIER_CHECKPOINT);
     at = put(put(at, 1, 4), 100, 4);
     at = put(put(put(put(put(at, 1, 1), 1, 1), 0, 1), 2, 1), 30, 2);
     for (int seat = 0; seat < HUBS; seat++)
@@ -132,54 +142,99 @@ static void lose_and_restart(void) {
     step("hub 2 is lost; hub 0 gives its checkpoint",
          node_checkpoint(hubs[0].image, sizeof hubs[0].image, checkpoint, sizeof checkpoint),
          ACCESS_NODE_OK);
-    step("hub 2 starts from it with a new vault, life 2", start_hub(2, 2, checkpoint),
-         ACCESS_NODE_OK);
+    step("whose kind has the notices of the park", checkpoint[KIND_AT],
+         ACCESS_NODE_KIND_CHECKPOINT);
+    step("hub 2 starts from it with a new vault, life 2",
+         start_hub(2, 2, checkpoint, sizeof checkpoint), ACCESS_NODE_OK);
     step("it answers from the park's list", ask(2, 110), ACCESS_NODE_OK);
 }
 
-/* The arguments of the rejoin, in its announcement and in the proposal: seat 2, life 2. */
-static void put_rejoin(uint8_t *at) {
+/* An action that needs a notice, with its arguments, which its proposal has too. */
+struct noticed {
+    uint32_t kind;
+    void (*put_arguments)(uint8_t *at);
+};
+
+static void put_rejoin(uint8_t *at) { /* seat 2, life 2 */
     put(put(at, 2, 1), 2, 4);
 }
 
+/* m 0, k 2, S 30, an ordinary notice of 3 days, and 0 for the restart notice, which keeps it. */
+static void put_minima(uint8_t *at) {
+    put(put(put(put(put(at, 0, 1), 2, 1), 30, 2), 3, 1), 0, 1);
+}
+
+static void put_certify(uint8_t *at) { /* seat 3, life 1 */
+    put(put(at, 3, 1), 1, 4);
+}
+
+static const struct noticed REJOIN = {ACCESS_NODE_KIND_REJOIN, put_rejoin};
+static const struct noticed MINIMA = {ACCESS_NODE_KIND_MINIMA, put_minima};
+static const struct noticed CERTIFY = {ACCESS_NODE_KIND_CERTIFY, put_certify};
+
+static void propose(uint8_t *record, struct noticed action, uint32_t cycle, uint32_t day) {
+    uint8_t *at = announce(record, ACCESS_NODE_KIND_PROPOSE, cycle, day);
+    action.put_arguments(put(at, action.kind, 2));
+}
+
+/* The action is refused a day before its proposal is as old as its notice, and then performed. */
+static void act_on_time(struct noticed action, uint32_t cycle, uint32_t day, const char *early,
+                        const char *then) {
+    uint8_t record[ACCESS_NODE_ANNOUNCEMENT_SIZE];
+    action.put_arguments(announce(record, action.kind, cycle, day - 1));
+    step(early, deliver(0, record, 2), ACCESS_NODE_NOT_NOTICED);
+    action.put_arguments(announce(record, action.kind, cycle, day));
+    all_perform(then, record);
+}
+
 static void rejoin_by_vote(void) {
-    uint8_t propose[ACCESS_NODE_ANNOUNCEMENT_SIZE];
-    uint8_t *at = announce(propose, ACCESS_NODE_KIND_PROPOSE, 2, 102);
-    put_rejoin(put(at, ACCESS_NODE_KIND_REJOIN, 2));
-    step("it can't vote before a rejoin names its life", deliver(2, propose, 0),
+    uint8_t proposal[ACCESS_NODE_ANNOUNCEMENT_SIZE];
+    propose(proposal, REJOIN, 2, 102);
+    step("it can't vote before a rejoin names its life", deliver(2, proposal, 0),
          ACCESS_NODE_CANNOT_VOTE);
-    for (int seat = 0; seat < HUBS; seat++)
-        step("each hub performs the proposal of that rejoin", deliver(seat, propose, 2),
-             ACCESS_NODE_OK);
+    all_perform("each hub performs the proposal of that rejoin", proposal);
     step("which unlocks door 1 of hub 0", ask_at(1, 0, LOGIN, 110), ACCESS_NODE_OK);
-    uint8_t rejoin[ACCESS_NODE_ANNOUNCEMENT_SIZE];
-    put_rejoin(announce(rejoin, ACCESS_NODE_KIND_REJOIN, 3, 103));
-    step("one day later is too early for the rejoin", deliver(0, rejoin, 2),
-         ACCESS_NODE_NOT_NOTICED);
-    put_rejoin(announce(rejoin, ACCESS_NODE_KIND_REJOIN, 3, 104));
-    for (int seat = 0; seat < HUBS; seat++)
-        step("after two days each hub performs it", deliver(seat, rejoin, 2), ACCESS_NODE_OK);
+    act_on_time(REJOIN, 3, 104, "one day later is too early for the rejoin",
+                "after two days each hub performs it");
+}
+
+static void set_notices_by_vote(void) {
+    uint8_t proposal[ACCESS_NODE_ANNOUNCEMENT_SIZE];
+    propose(proposal, MINIMA, 4, 105);
+    all_perform("each hub performs the proposal of a shorter notice", proposal);
+    act_on_time(MINIMA, 5, 112, "it takes the notice in force: six days are too few",
+                "after seven days each hub sets it");
+}
+
+static void certify_by_vote(void) {
+    uint8_t proposal[ACCESS_NODE_ANNOUNCEMENT_SIZE];
+    propose(proposal, CERTIFY, 6, 112);
+    all_perform("each hub performs the proposal of a fourth seat", proposal);
+    act_on_time(CERTIFY, 7, 115, "two days are too few for it",
+                "after three days each hub performs it");
 }
 
 static void end_by_vote(void) {
     uint8_t end[ACCESS_NODE_ANNOUNCEMENT_SIZE];
-    put(announce(end, ACCESS_NODE_KIND_END, 4, 105), LOGIN, 4);
+    put(announce(end, ACCESS_NODE_KIND_END, 8, 116), LOGIN, 4);
     step("hub 2 votes again, for the end of the login", deliver(2, end, 0), ACCESS_NODE_VOTED);
     step("hub 0 performs the end", deliver(0, end, 2), ACCESS_NODE_OK);
     step("it no longer lists the login", ask(0, 110), ACCESS_NODE_NOT_LISTED);
-    step("hub 1 has not heard of the end and still opens", ask(1, 134), ACCESS_NODE_OK);
-    step("but not for a day beyond the silence limit", ask(1, 136), ACCESS_NODE_SILENT);
+    step("hub 1 has not heard of the end and still opens", ask(1, 145), ACCESS_NODE_OK);
+    step("but not for a day beyond the silence limit", ask(1, 146), ACCESS_NODE_SILENT);
 }
 
 int main(void) {
-    uint8_t checkpoint[ACCESS_NODE_CHECKPOINT_SIZE];
-    first_checkpoint(checkpoint);
+    uint8_t first[ACCESS_NODE_EARLIER_CHECKPOINT_SIZE];
+    first_checkpoint(first, sizeof first);
     for (int seat = 0; seat < HUBS; seat++)
-        step("a hub is commissioned", start_hub(seat, 1, checkpoint), ACCESS_NODE_OK);
+        step("a hub is commissioned", start_hub(seat, 1, first, sizeof first), ACCESS_NODE_OK);
     grant_by_vote();
     lock_a_door();
     lose_and_restart();
     rejoin_by_vote();
+    set_notices_by_vote();
+    certify_by_vote();
     end_by_vote();
     return 0;
 }

@@ -11,6 +11,12 @@
  * image that is handed in. A call that breaks this may seem to work with one build of the library
  * and fail with the next.
  *
+ * Checkpoints. node_checkpoint writes one of kind 26, and an image begins with one. Behind S it has
+ * the ordinary notice and the restart notice, 1 to 30 days each: the least age of the proposal of a
+ * certify, minima or remove, and of a rejoin. A minima sets them in its two bytes behind S, where 0
+ * keeps one; other numbers are malformed. node_start also takes a checkpoint of kind 16, which has
+ * no notices, with 7 and 2.
+ *
  * Image. What the node holds from one call to the next. Where a call writes an image
  * (ACCESS_NODE_WRITES_IMAGE) it is the node's from then on, else the one that was handed in stays
  * the node's. The answers 19, 20 and 21 write one too: it counts the miss, and a firmware that
@@ -36,7 +42,7 @@
  *
  * Threads. The library has no variables of its own: calls on different slices may run at once.
  *
- * Work. Each call returns for every input. No loop runs over more than a checkpoint's 1,108 bytes,
+ * Work. Each call returns for every input. No loop runs over more than a checkpoint's 1,110 bytes,
  * 64 rows, 32 seats, 16 proposals, the 47 characters of a page's 64 lines or the 34 of a roster's;
  * docs/PERFORMANCE.md has the instructions of each call.
  *
@@ -64,13 +70,17 @@ extern "C" {
  * misses: a query of kind 21 names its door, and the image grows by 3 bytes; an image of 1,139
  * bytes, as earlier editions wrote it, is malformed. In edition 6 a rejoin needs a proposal, of
  * subject kind 7: every checkpoint of an earlier edition is read as before, but one with such a
- * proposal is malformed in those. All nodes of a park run under the same rules: those of editions
- * 1 to 3, of edition 4, of edition 5, or of edition 6. */
-#define ACCESS_NODE_EDITION 6
+ * proposal is malformed in those. In edition 7 a park sets its notices: minima has two more bytes,
+ * and so have the checkpoint that is written, now of kind 26, and the image. A checkpoint of kind 16
+ * is read as before, with notices 7 and 2; an image of 1,142 bytes is malformed. All nodes of a park
+ * run under the same rules: those of editions 1 to 3, of edition 4, of 5, of 6, or of 7. */
+#define ACCESS_NODE_EDITION 7
 
-/* Sizes of whole records. A sheet has 0 to ACCESS_NODE_MOST_ROWS rows. */
-#define ACCESS_NODE_CHECKPOINT_SIZE 1108
-#define ACCESS_NODE_IMAGE_SIZE 1142
+/* Sizes of whole records; the earlier checkpoint is that of kind 16. A sheet has 0 to
+ * ACCESS_NODE_MOST_ROWS rows. */
+#define ACCESS_NODE_CHECKPOINT_SIZE 1110
+#define ACCESS_NODE_EARLIER_CHECKPOINT_SIZE 1108
+#define ACCESS_NODE_IMAGE_SIZE 1144
 #define ACCESS_NODE_START_SIZE 9
 #define ACCESS_NODE_ANNOUNCEMENT_SIZE 24
 #define ACCESS_NODE_SHEET_SIZE(rows) (7 + 5 * (rows))
@@ -101,11 +111,12 @@ extern "C" {
 #define ACCESS_NODE_KIND_REJOIN 7
 #define ACCESS_NODE_KIND_GRANT 8
 #define ACCESS_NODE_KIND_END 9
-#define ACCESS_NODE_KIND_CHECKPOINT 16
+#define ACCESS_NODE_KIND_EARLIER_CHECKPOINT 16
 #define ACCESS_NODE_KIND_SHEET 18
 #define ACCESS_NODE_KIND_START 19
 #define ACCESS_NODE_KIND_QUERY 20
 #define ACCESS_NODE_KIND_DOOR_QUERY 21
+#define ACCESS_NODE_KIND_CHECKPOINT 26
 
 /* Answers. */
 #define ACCESS_NODE_OK 0             /* started, performed, open; what was asked for is given */
@@ -118,7 +129,7 @@ extern "C" {
 #define ACCESS_NODE_DAY_BACK 7       /* announced for a day before the agreed day */
 #define ACCESS_NODE_NOT_SIGNED 8     /* too few trustees of the level that the kind needs */
 #define ACCESS_NODE_SEAT_UNFIT 9     /* the seat's standing does not fit the kind or the start */
-#define ACCESS_NODE_NOT_NOTICED 10   /* no equal proposal 7 (rejoin: 2) to 60 days before */
+#define ACCESS_NODE_NOT_NOTICED 10   /* no equal proposal from its notice up to 60 days old */
 #define ACCESS_NODE_TABLE_FULL 11    /* no row left for a proposal or a login */
 #define ACCESS_NODE_QUORUM_LOST 12   /* fewer seats would be present than the quorum needs */
 #define ACCESS_NODE_NOT_FOUND 13     /* no such proposal, or a lapsed one; no such login to end */
@@ -147,10 +158,10 @@ extern "C" {
      (ACCESS_NODE_ANSWER(returned) >= ACCESS_NODE_NOT_LISTED &&              \
       ACCESS_NODE_ANSWER(returned) <= ACCESS_NODE_RIGHT_NOT_HELD))
 
-/* Starts a node from a checkpoint, at the seat and under the life of a start record.
+/* Starts a node from a checkpoint of either kind, at the seat and under the life of a start record.
  * Refusals: 1, 22, 9, 14. Writes the image with 0: no vote, no misses. A refused start makes no
  * node. */
-#define ACCESS_NODE_STACK_START 5120
+#define ACCESS_NODE_STACK_START 7168
 uint32_t node_start(const uint8_t *checkpoint, size_t checkpoint_length,
                     const uint8_t *start, size_t start_length,
                     uint8_t *image_out, size_t image_out_length);
@@ -172,7 +183,7 @@ uint32_t node_query(const uint8_t *image, size_t image_length,
                     const uint8_t *query, size_t query_length,
                     uint8_t *image_out, size_t image_out_length);
 
-/* Gives the checkpoint of the node's state.
+/* Gives the checkpoint of the node's state, of kind 26 whatever kind the node was started from.
  * Refusals: 1, 22. Writes the checkpoint with 0. */
 #define ACCESS_NODE_STACK_CHECKPOINT 4096
 uint32_t node_checkpoint(const uint8_t *image, size_t image_length,

@@ -13,6 +13,7 @@ LAST_DAY = (datetime.date(2099, 12, 31) - datetime.date(1970, 1, 1)).days
 LINES = 64
 SILENCE = 365
 DOORS = 4  # each with a byte of misses
+KIND = 26  # of a checkpoint that has the notices
 
 
 def number(value, size):
@@ -21,7 +22,7 @@ def number(value, size):
 
 def image(agreed, rows):
     """An image of a node at seat 0 with these logins: (login, end day, rights)."""
-    head = number(1106, 2) + number(16, 2) + number(1, 4) + number(agreed, 4) + bytes([1, 1, 0, 1]) + number(SILENCE, 2)
+    head = number(1108, 2) + number(KIND, 2) + number(1, 4) + number(agreed, 4) + bytes([1, 1, 0, 1]) + number(SILENCE, 2) + bytes([7, 2])
     seats = bytes([2]) + number(1, 4) + bytes(31 * 5)
     logins = b"".join(number(login, 4) + number(end, 4) + number(rights, 2) for login, end, rights in rows)
     own = bytes([0]) + number(1, 4) + bytes(25 + DOORS)
@@ -54,16 +55,19 @@ def wrong_dates(program, path):
 def cases(folder):
     """Words, the exit status, and what is printed or said."""
     good = image(100, [(501, 120, 1)])
-    files = {"good": good, "empty": b"", "none": image(100, []), "short": good[:-1], "long": good + b"\0", "kind": good[:2] + b"\x11" + good[3:]}
+    older = number(1106, 2) + number(16, 2) + good[4:18] + good[20:]  # as it was before the notices
+    files = {"good": good, "empty": b"", "none": image(100, []), "short": good[:-1], "long": good + b"\0", "older": older}
+    files |= {"kind": good[:2] + b"\x11" + good[3:], "notice": good[:18] + b"\0" + good[19:]}
     for name, content in files.items():
         (folder / name).write_bytes(content)
     yield ["good", 120], 0, line((501, 120, 1), 120)
     yield ["good", 100 + SILENCE + 1], 0, "silent"
     yield ["good", 4294967295], 0, "silent"
     yield ["none", 0], 0, ""
-    for name in ["empty", "short", "long"]:
-        yield [name, 120], 1, "no image"
-    yield ["kind", 120], 1, "no well-formed image"
+    for name in ["empty", "short", "long", "older"]:
+        yield [name, 120], 1, "no image, which has 1,144 bytes"
+    for name in ["kind", "notice"]:
+        yield [name, 120], 1, "no well-formed image"
     for words in [[], ["good"], ["good", 1, 2]]:
         yield words, 2, "usage: access_page IMAGE DAY"
     for day in ["", "-1", "12x", " 1", "4294967296", "99999999999999999999", "1970-05-01"]:

@@ -19,6 +19,7 @@ PATIENCE = 10  # seconds for one run
 MOST_FAILURES = 20  # after these the rest is left: each may have taken all that time
 GREATEST_SIZE = 65537  # of a record: the length field, and 65,535 bytes after it
 QUERIES = (20, 21)  # kinds of a request of one record
+NOTICED = 26  # kind of a checkpoint that has the notices; the printed run's has kind 16, and none
 CRATE = pathlib.Path(__file__).resolve().parent.parent / "crates/node_run"
 
 # ---- requests: their records, the answer and the cycle after it
@@ -52,6 +53,7 @@ def stored():
 
 REQUESTS, LAST, NOT_READ = stored()
 PRINTED_RUN = REQUESTS[:6]
+START = next(data for data, answer in REQUESTS if answer.startswith(b"started") and kind_of(split(data)[1]) == NOTICED)
 GRANT, NO_ROWS = split(PRINTED_RUN[1][0])
 OPEN = PRINTED_RUN[3]
 
@@ -77,8 +79,11 @@ def broken(requests, rest):
 
 
 def cuts():
-    """The printed run cut after every byte; the stored input cut at and beside the edges of every request and record."""
+    """The printed run and a start from a kind 26 checkpoint cut after every byte; the stored input cut at and beside the edges of every
+    request and record."""
     yield "no input", b"", b""
+    for n in range(1, len(START)):
+        yield f"start from kind {NOTICED} cut after {n} bytes", *broken([], START[:n])
     for i, (data, _) in enumerate(PRINTED_RUN):
         for n in range(1, len(data)):
             yield f"printed run, request {i + 1} cut after {n} bytes", *broken(PRINTED_RUN[:i], data[:n])
@@ -160,7 +165,7 @@ def checks(program):
             yield what, lambda data=data, wanted=wanted: difference(run(program, data), wanted)
     requests = [*REQUESTS, LAST]
     table, lines = whole(requests)
-    for size in (1, 2, 3, 7, 13, 24, 1000, 1109, 4096):
+    for size in (1, 2, 3, 7, 13, 24, 1000, 1109, 1111, 4096):
         yield f"in pieces of {size} bytes", lambda size=size: difference(run_in_pieces(program, table, size), lines)
     yield "in turns", lambda: difference(run_in_turns(program, requests), lines)
 

@@ -1,7 +1,14 @@
-//! The records of document 01 and requests A5 and A6 as one table: the fields of each in the order of
-//! their bytes, their sizes, places and ranges; the line of a page and that of a roster. What writes,
-//! shows and damages records takes them from here; the second implementation and the version for speed
-//! have their own.
+//! The records of document 01 and requests A5 to A7 as one table: the fields of each in the order of
+//! their bytes, their sizes and ranges. Where the parts of checkpoints and images stand is in `places`,
+//! the line of a page and that of a roster in `lines`. What writes, shows and damages records takes them
+//! from here; the second implementation and the version for speed have their own.
+
+mod lines;
+mod places;
+
+pub use lines::{announcements_size, lines, roster_line_size, roster_lines, LINE_SIZE, WORD};
+pub use places::{to_current, to_old, Table, CHECKPOINT_SIZE, IMAGE_SIZE, LOGINS, MISSES_AT};
+pub use places::{NOTICES_AT, OLD_CHECKPOINT_SIZE, PROPOSALS, SEATS, VOTE, VOTED_AT};
 
 /// How a field's value stands in the text.
 #[derive(Debug, Clone, Copy, PartialEq, Eq)]
@@ -81,6 +88,10 @@ pub const TRUSTEES: Field = number("trustees", 1, 1, 8);
 pub const MARGIN: Field = number("m", 1, 0, 7);
 pub const LEAST_QUORUM: Field = number("k", 1, 1, 32);
 pub const SILENCE: Field = number("S", 2, 1, 365);
+/// In days: "1 to 30 days each" (request A7).
+pub const NOTICES: [Field; 2] = [number("ordinary", 1, 1, 30), number("restart", 1, 1, 30)];
+/// Those that a minima names, proposed or announced: "zero meaning keep".
+pub const NAMED_NOTICES: [Field; 2] = [number("ordinary", 1, 0, 30), number("restart", 1, 0, 30)];
 /// "login 0 in a query or end" is well formed; those of a grant and a list are at least 1.
 const ANY_LOGIN: Field = number("login", 4, 0, MAX);
 pub const RIGHT: Field = number("right", 1, 0, 15);
@@ -111,22 +122,31 @@ pub const LOGIN: [Field; 3] = [
     number("end", 4, 0, MAX),
     bits("rights", 2, 1),
 ];
-/// Of a checkpoint; the seats, the proposals and the logins follow.
-pub const CHECKPOINT: [Field; 7] = [
-    number("cycle", 4, 1, MAX),
+const HELD_CYCLE: Field = number("cycle", 4, 1, MAX);
+/// Of a checkpoint of kind 26, with the notices "after S" (request A7); the seats, the proposals and the
+/// logins follow.
+pub const CHECKPOINT: [Field; 9] = [
+    HELD_CYCLE,
     DAY,
     TRUSTEES,
     unnamed(TRUSTEES),
     MARGIN,
     LEAST_QUORUM,
     SILENCE,
+    NOTICES[0],
+    NOTICES[1],
 ];
+/// Of one of kind 16, which has no notices.
+pub const OLD_CHECKPOINT: [Field; 7] = *CHECKPOINT.first_chunk().unwrap();
 pub const SEAT_ROW: [Field; 2] = [STANDING, LIFE];
 /// An image's own part up to the voted flag; the vote and the misses follow.
 pub const OWN: [Field; 2] = [SEAT, HELD_LIFE];
 /// The misses of an image, by door.
 pub const ALL_MISSES: [Field; DOORS] = [MISSES, unnamed(MISSES), unnamed(MISSES), unnamed(MISSES)];
 
+/// What every minima has in the text; the notices stand behind it where it names them.
+pub const MINIMA: [Field; 3] = [MARGIN, LEAST_QUORUM, SILENCE];
+pub const MINIMA_KIND: u16 = 5;
 pub const REJOIN: [Field; 2] = [SEAT, LIFE];
 /// The nine actions by kind, from 1. The argument of propose is another action.
 pub const ACTIONS: [(&str, &[Field]); 9] = [
@@ -134,7 +154,16 @@ pub const ACTIONS: [(&str, &[Field]); 9] = [
     ("cancel", &[CYCLE]),
     ("presents", &[SEAT, number("flag", 1, 0, 1)]),
     ("certify", &[SEAT, HELD_LIFE]),
-    ("minima", &[MARGIN, LEAST_QUORUM, SILENCE]),
+    (
+        "minima",
+        &[
+            MARGIN,
+            LEAST_QUORUM,
+            SILENCE,
+            NAMED_NOTICES[0],
+            NAMED_NOTICES[1],
+        ],
+    ),
     ("remove", &[SEAT]),
     ("rejoin", &REJOIN),
     ("grant", &LOGIN),
@@ -144,33 +173,13 @@ pub const ACTIONS: [(&str, &[Field]); 9] = [
 /// "Standings: 0 free, 1 certified, 2 present, 3 retired for good."
 pub const STANDINGS: [&str; 4] = ["free", "certified", "present", "retired"];
 
-pub const CHECKPOINT_KIND: u16 = 16;
+/// The one that is written (request A7), and the one of document 01, which is still read.
+pub const CHECKPOINT_KIND: u16 = 26;
+pub const OLD_CHECKPOINT_KIND: u16 = 16;
 pub const SHEET_KIND: u16 = 18;
 pub const START_KIND: u16 = 19;
 pub const QUERY_KIND: u16 = 20;
 pub const DOOR_QUERY_KIND: u16 = 21;
-
-/// A table of a checkpoint: where its first row stands, its most rows and the bytes of each.
-pub struct Table {
-    pub at: usize,
-    pub most: usize,
-    pub size: usize,
-}
-
-impl Table {
-    pub const fn end(&self) -> usize {
-        self.at + self.most * self.size
-    }
-
-    /// Where the number of used rows stands: a byte before the rows.
-    pub const fn count_at(&self) -> usize {
-        self.at - 1
-    }
-
-    pub const fn row(&self, row: usize) -> usize {
-        self.at + row * self.size
-    }
-}
 
 /// Where a record's body begins: length and kind are before it.
 pub const BODY: usize = 4;
@@ -184,35 +193,6 @@ pub const ROWS: usize = ROW_COUNT_AT + ROW_COUNT.size;
 pub const ROW_SIZE: usize = size(&ROW);
 /// Where the door of a query stands: behind the fields of one that names none.
 pub const DOOR_AT: usize = BODY + size(&QUERY);
-pub const SEATS: Table = Table {
-    at: BODY + size(&CHECKPOINT),
-    most: 32,
-    size: size(&SEAT_ROW),
-};
-pub const PROPOSALS: Table = Table {
-    at: SEATS.end() + 1,
-    most: 16,
-    size: size(&PROPOSAL) + SUBJECT_SIZE,
-};
-pub const LOGINS: Table = Table {
-    at: PROPOSALS.end() + 1,
-    most: 64,
-    size: size(&LOGIN),
-};
-pub const CHECKPOINT_SIZE: usize = LOGINS.end();
-/// Where the parts of an image stand behind its checkpoint.
-pub const VOTED_AT: usize = CHECKPOINT_SIZE + size(&OWN);
-pub const VOTE: std::ops::Range<usize> = VOTED_AT + 1..VOTED_AT + 1 + ANNOUNCEMENT_SIZE;
-pub const MISSES_AT: usize = VOTE.end;
-pub const IMAGE_SIZE: usize = MISSES_AT + size(&ALL_MISSES);
-/// A line of a page: "46 characters and a line feed" (request A1).
-pub const LINE_SIZE: usize = 47;
-/// The line of a roster for a grant (request A2) without its login: two commas, a date, four
-/// hexadecimal digits, CR LF.
-pub const ROSTER_LINE_SIZE: usize = 18;
-/// Where the word of a line stands, padded.
-pub const WORD: std::ops::Range<usize> = 39..46;
-
 pub const fn size(fields: &[Field]) -> usize {
     let (mut size, mut place) = (0, 0);
     while place < fields.len() {
@@ -227,28 +207,6 @@ pub fn number_at(bytes: &[u8], at: usize, size: usize) -> u32 {
     let end = bytes.len().min(at + size);
     let field = bytes[at.min(end)..end].iter().rev();
     field.fold(0, |n, byte| n << 8 | u32::from(*byte))
-}
-
-/// The lines of an image's page: the number of its logins.
-pub fn lines(image: &[u8]) -> usize {
-    number_at(image, LOGINS.count_at(), 1) as usize
-}
-
-/// The bytes of the announcements for a roster: none of its fields has a line break.
-pub fn announcements_size(roster: &[u8]) -> usize {
-    ANNOUNCEMENT_SIZE * roster_lines(roster)
-}
-
-/// The lines of a roster: the last may lack its line end.
-pub fn roster_lines(roster: &[u8]) -> usize {
-    let ended = roster.windows(2).filter(|pair| pair == b"\r\n").count();
-    ended + usize::from(!roster.is_empty() && !roster.ends_with(b"\r\n"))
-}
-
-/// The bytes of the line for a grant.
-pub fn roster_line_size(announcement: &[u8]) -> usize {
-    let login = number_at(announcement, ARGUMENTS, LOGIN[0].size);
-    login.to_string().len() + ROSTER_LINE_SIZE
 }
 
 /// A record's kind.
@@ -302,11 +260,25 @@ pub fn record(kind: u16, body: &[u8]) -> Vec<u8> {
 pub fn least_size(kind: u16) -> usize {
     match kind {
         CHECKPOINT_KIND => CHECKPOINT_SIZE,
+        OLD_CHECKPOINT_KIND => OLD_CHECKPOINT_SIZE,
         SHEET_KIND => ROWS,
         START_KIND => BODY + size(&START),
         QUERY_KIND => BODY + size(&QUERY),
         DOOR_QUERY_KIND => BODY + size(&DOOR_QUERY),
         _ => ANNOUNCEMENT_SIZE,
+    }
+}
+
+/// Whether a record is a checkpoint, by its kind.
+pub fn is_checkpoint(kind: u16) -> bool {
+    matches!(kind, CHECKPOINT_KIND | OLD_CHECKPOINT_KIND)
+}
+
+/// The fields of a checkpoint of this kind, before its seats.
+pub fn checkpoint_fields(kind: u16) -> &'static [Field] {
+    match kind {
+        OLD_CHECKPOINT_KIND => &OLD_CHECKPOINT,
+        _ => &CHECKPOINT,
     }
 }
 

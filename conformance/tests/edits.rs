@@ -42,8 +42,8 @@ fn an_edit_that_does_not_fit_is_named() {
     let twice = fault("file: announcement.rs\nold: let seat = reader.seat()?;\nnew:\n");
     let what = "old occurs 3 times in announcement.rs, not once: let seat = reader.seat()?;";
     assert_eq!(twice, format!("{begin}{what}"));
-    let outside = fault("file: image.rs\nold: pub const SIZE: usize = 1142;\nnew:\n");
-    let what = "old stands outside a function of image.rs: pub const SIZE: usize = 1142;";
+    let outside = fault("file: image.rs\nold: pub const SIZE: usize = 1144;\nnew:\n");
+    let what = "old stands outside a function of image.rs: pub const SIZE: usize = 1144;";
     assert_eq!(outside, format!("{begin}{what}"));
 }
 

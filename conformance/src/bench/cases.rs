@@ -1,9 +1,10 @@
 //! The measured calls, on a full state and on a small one.
 
 use crate::compare::call::{given, Records, VOTED};
-use crate::compare::fields::{Login, OwnFields, Proposal, Seat, StateFields, FREE, PRESENT};
+use crate::compare::fields::{Login, Notices, OwnFields, Proposal, Seat, StateFields};
+use crate::compare::fields::{FREE, PRESENT};
 use crate::compare::make::records;
-use crate::layout::{roster_line_size, SUBJECT_SIZE};
+use crate::layout::{roster_line_size, to_old, MINIMA_KIND, SUBJECT_SIZE};
 
 pub struct Case {
     pub name: &'static str,
@@ -40,7 +41,7 @@ pub const SMALL: Size = Size {
     name: "small",
     seats: 3,
     margin: 0,
-    proposals: 2,
+    proposals: 3,
     logins: 2,
     rows: 2,
 };
@@ -54,18 +55,20 @@ impl Size {
             margin: self.margin,
             least: 2,
             silence: 30,
+            notices: Notices::OF_OLD,
             seats: std::array::from_fn(|i| seat(i < self.seats.into())),
             proposals: (0..self.proposals).map(|i| self.proposal(i)).collect(),
             logins: (1..=self.logins).map(login).collect(),
         }
     }
 
-    /// A proposal announced in good time: the one before the last to rejoin a seat, the others to
-    /// remove one.
+    /// A proposal announced in good time: the third from the end of minima, the one before the last to
+    /// rejoin a seat, the others to remove one.
     fn proposal(&self, i: u8) -> Proposal {
-        let (kind, arguments) = match i + 2 == self.proposals {
-            true => (7, next_life(i)),
-            false => (6, records::subject(6, &[i.into()])),
+        let (kind, arguments) = match self.proposals - i {
+            3 => (MINIMA_KIND, minima()),
+            2 => (7, next_life(i)),
+            _ => (6, records::subject(6, &[i.into()])),
         };
         Proposal {
             cycle: 900 + u32::from(i),
@@ -77,42 +80,58 @@ impl Size {
 
     /// The calls, each as often as it has another way to end.
     pub fn cases(&self) -> Vec<Case> {
-        let propose = late_proposal();
-        let remove = announcement(6, records::arguments(&[self.proposals - 1]));
-        let rejoin = announcement(7, records::arguments(&next_life(self.proposals - 2)));
-        let grant = announcement(8, records::grant(500 * self.logins, DAY + 200, 3));
-        let end = announcement(9, records::arguments(&500u32.to_le_bytes()));
-        let late = announcement(9, records::arguments(&1u32.to_le_bytes()));
+        let lines = given(self.logins as usize);
+        let grant = self.grant();
         let line_size = roster_line_size(&grant);
-        let start = Records::Start(self.state().write(), records::start(0, LIFE));
         let at_door_3 = Records::Query(records::door_query(500 * self.logins, DAY, 0, 3));
-        vec![
-            self.case("start", start, 0),
-            self.case(
-                "deliver: propose done",
-                self.deliver(&propose, self.rows),
-                0,
-            ),
-            self.case("deliver: remove done", self.deliver(&remove, self.rows), 0),
-            self.case("deliver: rejoin done", self.deliver(&rejoin, self.rows), 0),
-            self.case("deliver: grant done", self.deliver(&grant, self.rows), 0),
-            self.case("deliver: end done", self.deliver(&end, self.rows), 0),
-            self.case("deliver: grant voted", self.deliver(&grant, 0), VOTED),
-            self.case("deliver: end no 13", self.deliver(&late, self.rows), 13),
+        let mut cases: Vec<Case> = self.starts().into();
+        cases.extend(self.deliveries());
+        cases.extend([
             self.case("query: open", query(500 * self.logins, DAY), 0),
             self.case("query: open at door 3", at_door_3, 0),
             self.case("query: no 19", query(7, DAY), 19),
             self.case("query: no 18", query(500, DAY + 31), 18),
             self.case("checkpoint", Records::Checkpoint, 0),
-            self.case("page", Records::Page(DAY), given(self.logins as usize)),
-            self.case("import", self.import(""), given(self.logins as usize)),
-            self.case(
-                "import: quoted",
-                self.import("\""),
-                given(self.logins as usize),
-            ),
+            self.case("page", Records::Page(DAY), lines),
+            self.case("import", self.import(""), lines),
+            self.case("import: quoted", self.import("\""), lines),
             self.case("export", Records::Export(grant), given(line_size)),
+        ]);
+        cases
+    }
+
+    fn starts(&self) -> [Case; 2] {
+        let checkpoint = self.state().write();
+        let old = to_old(&checkpoint);
+        let start = |checkpoint| Records::Start(checkpoint, records::start(0, LIFE));
+        [
+            self.case("start", start(checkpoint), 0),
+            self.case("start: kind 16", start(old), 0),
         ]
+    }
+
+    fn deliveries(&self) -> [Case; 8] {
+        let minima = announcement(MINIMA_KIND, records::arguments(&minima()));
+        let remove = announcement(6, records::arguments(&[self.proposals - 1]));
+        let rejoin = announcement(7, records::arguments(&next_life(self.proposals - 2)));
+        let end = announcement(9, records::arguments(&500u32.to_le_bytes()));
+        let late = announcement(9, records::arguments(&1u32.to_le_bytes()));
+        let deliver = |announcement: &[u8]| self.deliver(announcement, self.rows);
+        let voted = self.deliver(&self.grant(), 0);
+        [
+            self.case("deliver: propose done", deliver(&late_proposal()), 0),
+            self.case("deliver: minima done", deliver(&minima), 0),
+            self.case("deliver: remove done", deliver(&remove), 0),
+            self.case("deliver: rejoin done", deliver(&rejoin), 0),
+            self.case("deliver: grant done", deliver(&self.grant()), 0),
+            self.case("deliver: end done", deliver(&end), 0),
+            self.case("deliver: grant voted", voted, VOTED),
+            self.case("deliver: end no 13", deliver(&late), 13),
+        ]
+    }
+
+    fn grant(&self) -> Vec<u8> {
+        announcement(8, records::grant(500 * self.logins, DAY + 200, 3))
     }
 
     /// A roster of a line for each login, its fields between quotes where there is one.
@@ -167,6 +186,11 @@ fn seat(present: bool) -> Seat {
             life: 0,
         },
     }
+}
+
+/// The arguments of minima that set the ordinary notice and keep the other.
+fn minima() -> [u8; SUBJECT_SIZE] {
+    records::subject(MINIMA_KIND, &[0, 1, 40, 14, 0])
 }
 
 /// The arguments of a rejoin under the next life.

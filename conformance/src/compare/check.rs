@@ -11,3 +11,4 @@ pub mod rerun;
 mod restarts;
 pub mod rosters;
 pub mod second;
+mod settings;

@@ -1,12 +1,12 @@
 //! The fields of checkpoints and images, to look at the state that a call will meet. Nothing here
 //! checks what it reads or writes: malformed checkpoints are made with it too.
 
-use crate::layout::{
-    self, kind_of, number_at, ARGUMENTS, BODY, CHECKPOINT, CHECKPOINT_KIND, CHECKPOINT_SIZE,
-    CYCLE_AND_DAY, DOORS, IMAGE_SIZE, LOGIN, LOGINS, SUBJECT_KIND,
-};
-use crate::layout::{MISSES, MISSES_AT, OWN, PROPOSAL, PROPOSALS, ROW, ROWS, ROW_SIZE, SEATS};
-use crate::layout::{SEAT_ROW, SUBJECT_SIZE, VOTE, VOTED_AT};
+mod proposals;
+
+use crate::layout::{self, to_current, CHECKPOINT, CHECKPOINT_KIND, CHECKPOINT_SIZE, DOORS};
+use crate::layout::{IMAGE_SIZE, LOGIN, LOGINS, MISSES, MISSES_AT, OWN, PROPOSALS, ROW, ROWS};
+use crate::layout::{ROW_SIZE, SEATS, SEAT_ROW, VOTE, VOTED_AT};
+pub use proposals::{Notices, Proposal};
 
 pub const FREE: u8 = 0;
 pub const CERTIFIED: u8 = 1;
@@ -27,14 +27,6 @@ impl Seat {
 }
 
 #[derive(Clone, Copy, PartialEq, Debug)]
-pub struct Proposal {
-    pub cycle: u32,
-    pub day: u32,
-    pub kind: u16,
-    pub arguments: [u8; SUBJECT_SIZE],
-}
-
-#[derive(Clone, Copy, PartialEq, Debug)]
 pub struct Login {
     pub login: u32,
     pub end: u32,
@@ -50,13 +42,15 @@ pub struct StateFields {
     pub margin: u8,
     pub least: u8,
     pub silence: u16,
+    pub notices: Notices,
     pub seats: [Seat; SEATS.most],
     pub proposals: Vec<Proposal>,
     pub logins: Vec<Login>,
 }
 
 impl StateFields {
-    /// The state of the printed run: three present seats of life 1, k = 2, S = 30, day 100.
+    /// The state of the printed run: three present seats of life 1, k = 2, S = 30, day 100, notices of
+    /// 7 and 2 days.
     pub fn printed_run() -> StateFields {
         let present = Seat {
             standing: PRESENT,
@@ -71,19 +65,22 @@ impl StateFields {
             margin: 0,
             least: 2,
             silence: 30,
+            notices: Notices::OF_OLD,
             seats,
             proposals: Vec::new(),
             logins: Vec::new(),
         }
     }
 
-    /// Reads a checkpoint or the checkpoint at the front of an image. None where it is too short.
+    /// Reads a checkpoint of either kind or the checkpoint at the front of an image. None where it is
+    /// too short.
     pub fn read(bytes: &[u8]) -> Option<StateFields> {
+        let bytes = to_current(bytes);
         if bytes.len() < CHECKPOINT_SIZE {
             return None;
         }
-        let [cycle, day, level_1, level_2, margin, least, silence] =
-            layout::read(&CHECKPOINT, bytes, layout::BODY);
+        let [cycle, day, level_1, level_2, margin, least, silence, ordinary, restart] =
+            layout::read(&CHECKPOINT, &bytes, layout::BODY);
         let used = |table: &layout::Table| {
             let rows = bytes[table.at..table.end()].chunks(table.size);
             rows.take(bytes[table.count_at()].into())
@@ -95,13 +92,14 @@ impl StateFields {
             margin: margin as u8,
             least: least as u8,
             silence: silence as u16,
+            notices: Notices::new(ordinary, restart),
             seats: std::array::from_fn(|i| Seat::read(&bytes[SEATS.row(i)..])),
             proposals: used(&PROPOSALS).map(Proposal::read).collect(),
             logins: used(&LOGINS).map(Login::read).collect(),
         })
     }
 
-    /// The checkpoint's bytes; rows that a table has no room for are left out.
+    /// The bytes of the checkpoint of kind 26; rows that a table has no room for are left out.
     pub fn write(&self) -> Vec<u8> {
         let mut bytes = layout::record(CHECKPOINT_KIND, &[0; CHECKPOINT_SIZE - layout::BODY]);
         let head = [
@@ -112,6 +110,8 @@ impl StateFields {
             self.margin.into(),
             self.least.into(),
             self.silence.into(),
+            self.notices.ordinary,
+            self.notices.restart,
         ];
         layout::put(&CHECKPOINT, &head, &mut bytes, layout::BODY);
         let seats = bytes[SEATS.at..].chunks_mut(SEATS.size).zip(&self.seats);
@@ -172,66 +172,6 @@ impl Seat {
 
     fn write(&self, row: &mut [u8]) {
         layout::put(&SEAT_ROW, &[self.standing.into(), self.life], row, 0);
-    }
-}
-
-/// The least days between a proposal of this kind and its use: "ripe from 7 to 60 days" (request A3),
-/// of a rejoin "ripe from 2 to 60 days" (request A6).
-pub fn notice(kind: u16) -> u32 {
-    match kind {
-        7 => 2,
-        _ => 7,
-    }
-}
-
-impl Proposal {
-    /// What a performed propose adds.
-    pub fn of(announcement: &[u8]) -> Proposal {
-        let [cycle, day] = layout::read(&CYCLE_AND_DAY, announcement, BODY);
-        let arguments = ARGUMENTS + SUBJECT_KIND.size;
-        Proposal {
-            cycle,
-            day,
-            kind: number_at(announcement, ARGUMENTS, SUBJECT_KIND.size) as u16,
-            arguments: std::array::from_fn(|i| announcement[arguments + i]),
-        }
-    }
-
-    /// The announced day minus the proposal's.
-    pub fn age(&self, announced: u32) -> i64 {
-        i64::from(announced) - i64::from(self.day)
-    }
-
-    /// Whether its notice is over and it has not lapsed.
-    pub fn is_ripe(&self, announced: u32) -> bool {
-        (i64::from(notice(self.kind))..=60).contains(&self.age(announced))
-    }
-
-    /// "lapses on day 61" (request A3)
-    pub fn is_lapsed(&self, announced: u32) -> bool {
-        self.age(announced) >= 61
-    }
-
-    /// Whether the announcement has its kind and arguments.
-    pub fn is_subject_of(&self, announcement: &[u8]) -> bool {
-        let arguments = &announcement[ARGUMENTS..ARGUMENTS + SUBJECT_SIZE];
-        kind_of(announcement) == self.kind && arguments == self.arguments
-    }
-
-    fn read(row: &[u8]) -> Proposal {
-        let [cycle, day, kind] = layout::read(&PROPOSAL, row, 0);
-        let arguments = layout::size(&PROPOSAL);
-        Proposal {
-            cycle,
-            day,
-            kind: kind as u16,
-            arguments: std::array::from_fn(|i| row[arguments + i]),
-        }
-    }
-
-    fn write(&self, row: &mut [u8]) {
-        layout::put(&PROPOSAL, &[self.cycle, self.day, self.kind.into()], row, 0);
-        put(row, layout::size(&PROPOSAL), &self.arguments);
     }
 }
 

@@ -14,6 +14,7 @@ mod roster_edges;
 mod roster_fields;
 mod roster_sweeps;
 pub mod rosters;
+pub mod settings;
 pub mod sheets;
 pub mod starts_queries;
 pub mod states;

@@ -9,7 +9,7 @@ use super::check::second::Second;
 use super::check::{doors, one_call, program, rerun};
 use super::make::histories::HistoryMaker;
 use super::make::random::Random;
-use super::make::{lone_requests, rosters, streams, sweeps};
+use super::make::{lone_requests, rosters, settings, streams, sweeps};
 use super::tell::coverage::Coverage;
 use super::tell::kept_case::Case;
 use super::tell::roster_marks::Mark;
@@ -149,6 +149,7 @@ impl Stages {
     /// Requests that stand alone, until so many calls were made in all.
     pub fn lone_requests(&mut self, rng: &mut Random, until: u64) -> Result<(), Found> {
         let mut requests = lone_requests::ends();
+        requests.extend(settings::edges());
         while self.coverage.calls < until {
             for request in requests {
                 self.single(request)?;
@@ -310,6 +311,7 @@ fn run_random(
     coverage: &mut Coverage,
 ) -> Result<(History, Tally), Found> {
     coverage.restarts.begin();
+    coverage.settings.begin();
     let (mut maker, mut history) = HistoryMaker::new(Random::new(seed));
     let mut hosts = Hosts::new(second, &history.by_value);
     let mut claims = Claims::new(&history.first);
@@ -323,6 +325,7 @@ fn run_random(
             coverage.notices.note(&event.request, &event.outcome);
             coverage.restarts.note(&event.request, &event.outcome);
             coverage.doors.note(&event.request, &event.outcome);
+            coverage.settings.note(&event.request, &event.outcome);
             maker.learn(&event);
             claims.note(&event)
         };

@@ -23,7 +23,7 @@ pub struct Checker {
     pub node_run: PathBuf,
     pub reached: Reached,
     /// The answers of calls for which the lengths of all slices were swept, each once; of queries also
-    /// by their kind.
+    /// by their kind, of starts by that of the checkpoint.
     swept: Vec<(Sort, Answer, u16)>,
 }
 
@@ -81,6 +81,7 @@ impl Checker {
     /// What follows from a request that has room.
     fn derive(&mut self, request: &Request, call: &Call, number: u32) -> Result<(), String> {
         let kind = match call.sort {
+            Sort::Start => kind_of(&call.slices[0]),
             Sort::Query => kind_of(&call.slices[1]),
             _ => 0,
         };

@@ -8,7 +8,8 @@ use super::call::{Call, Sort};
 use super::make::{Slices, GUARD};
 use crate::compare::call::given;
 use crate::compare::make::records;
-use crate::layout::{self, is_query, CHECKPOINT_SIZE, DOORS, IMAGE_SIZE, MISSES_AT, QUERY_KIND};
+use crate::layout::{self, is_checkpoint, is_query, to_current, CHECKPOINT_KIND, CHECKPOINT_SIZE};
+use crate::layout::{DOORS, IMAGE_SIZE, MISSES_AT, OLD_CHECKPOINT_SIZE, QUERY_KIND, SEATS};
 use crate::text;
 
 /// What is done with a derived call and the number it is to return; an error ends the sweep.
@@ -164,12 +165,14 @@ fn misplaced(call: &Call, place: usize, each: Each) -> Swept {
     Ok(())
 }
 
-/// The kind that a record's third byte tells, the nine of an announcement as one, both of a query too.
+/// The kind that a record's third byte tells, the nine of an announcement as one, both of a query and
+/// both of a checkpoint too.
 fn sort_of(record: &[u8]) -> Option<u16> {
     let kind = record.get(2).copied().map(u16::from);
     kind.map(|kind| match kind {
         1..=9 => 1,
         _ if is_query(kind) => QUERY_KIND,
+        _ if is_checkpoint(kind) => CHECKPOINT_KIND,
         _ => kind,
     })
 }
@@ -190,22 +193,36 @@ pub fn as_vote(call: &Call, number: u32, each: Each) -> Swept {
     image_in_calls(&image, is_good, each)
 }
 
-/// The checkpoint of a refused start as the front of an image. Its start is well formed, or makes a
-/// malformed own part as well.
+/// The checkpoint of a start as the front of an image, where that is malformed: the one of a refused
+/// start, one of kind 16 also as the one of kind 26 for its state; every one of kind 16 as it is
+/// (request A7). The start is well formed, or makes a malformed own part as well.
 pub fn as_image(call: &Call, number: u32, each: Each) -> Swept {
     let [checkpoint, start] = call.slices.as_slice() else {
         return Ok(());
     };
     let is_start = start.len() == 9 && start.starts_with(&[7, 0, 19, 0]);
-    if call.sort != Sort::Start || number != 1 || !is_start || checkpoint.len() != CHECKPOINT_SIZE {
+    if call.sort != Sort::Start || !is_start {
         return Ok(());
     }
-    let mut image = [checkpoint.as_slice(), &start[4..]].concat();
-    if start[5..] == [0; 4] {
-        image[CHECKPOINT_SIZE + 1] = 1;
+    if checkpoint.len() == OLD_CHECKPOINT_SIZE {
+        image_in_calls(&image_of(checkpoint, start), false, each)?;
     }
-    image.resize(IMAGE_SIZE, 0);
-    image_in_calls(&image, false, each)
+    let current = to_current(checkpoint);
+    match number == 1 && current.len() == CHECKPOINT_SIZE {
+        true => image_in_calls(&image_of(&current, start), false, each),
+        false => Ok(()),
+    }
+}
+
+/// An image with the seat and the life of a start, of which life 0 would be malformed; no vote, no
+/// misses.
+fn image_of(checkpoint: &[u8], start: &[u8]) -> Vec<u8> {
+    let mut image = [checkpoint, &start[4..]].concat();
+    if start[5..] == [0; 4] {
+        image[checkpoint.len() + 1] = 1;
+    }
+    image.resize(checkpoint.len() + IMAGE_SIZE - CHECKPOINT_SIZE, 0);
+    image
 }
 
 /// The image of a checkpoint or page call in the other calls that take one.
@@ -255,7 +272,7 @@ const DELIVERED: [&str; 2] = [
 
 fn is_halted(image: &[u8]) -> bool {
     let seat = usize::from(image[CHECKPOINT_SIZE]);
-    image.get(18 + 5 * seat) == Some(&3)
+    image.get(SEATS.row(seat)) == Some(&3)
 }
 
 /// What a node answers to such a query: 3 where it is halted, 17 where the door is locked, else 19.

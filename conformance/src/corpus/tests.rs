@@ -45,10 +45,10 @@ fn a_name_stands_for_a_record() {
     let named = bytes(&format!("let asked\n{QUERY}\n at 12 bytes 0f\nsame asked"));
     assert_eq!(named, bytes("query login 501 day 120 right 15"));
     let image =
-        "let park\ncheckpoint cycle 1 day 1 trustees 1 1 m 0 k 1 S 1\n seat 0 present life 1\n\
-                 same park\nown seat 0 life 1 misses 3";
-    assert_eq!(bytes(image).len(), 1142);
-    assert_eq!(bytes(image)[1138..], [3, 0, 0, 0]);
+        "let park\ncheckpoint cycle 1 day 1 trustees 1 1 m 0 k 1 S 1 ordinary 7 restart 2\n \
+                 seat 0 present life 1\nsame park\nown seat 0 life 1 misses 3";
+    assert_eq!(bytes(image).len(), 1144);
+    assert_eq!(bytes(image)[1140..], [3, 0, 0, 0]);
 }
 
 #[test]
@@ -132,7 +132,7 @@ fn every_file_is_read() {
     for name in names() {
         assert!(read(&text(&name)).is_ok(), "{name}");
     }
-    assert_eq!(names().len(), 25 + 8 + 7 + 4);
+    assert_eq!(names().len(), 25 + 9 + 9 + 4);
 }
 
 #[test]
@@ -291,7 +291,7 @@ fn calls_for_c() {
         calls[..16],
         [0, 0, 0, 0, 84, 4, 0, 0, 9, 0, 0, 0, 0, 0, 0, 0]
     );
-    let sizes = 1108 + 9 + (1142 + 24 + 7) + (1142 + 24 + 17) + 3 * (1142 + 13);
+    let sizes = 1108 + 9 + (1144 + 24 + 7) + (1144 + 24 + 17) + 3 * (1144 + 13);
     assert_eq!(calls.len(), 6 * 16 + sizes);
 }
 
@@ -300,12 +300,12 @@ fn calls_for_c() {
 fn a_page_for_c() {
     let runs = read(&example("given 0", "").1).unwrap();
     let calls = export::calls(&runs).unwrap();
-    let page = &calls[calls.len() - (16 + 1142 + 4)..];
+    let page = &calls[calls.len() - (16 + 1144 + 4)..];
     assert_eq!(
         page[..16],
-        [4, 0, 0, 0, 118, 4, 0, 0, 4, 0, 0, 0, 0, 0, 0, 0]
+        [4, 0, 0, 0, 120, 4, 0, 0, 4, 0, 0, 0, 0, 0, 0, 0]
     );
-    assert_eq!(page[16 + 1142..], [120, 0, 0, 0]);
+    assert_eq!(page[16 + 1144..], [120, 0, 0, 0]);
 }
 
 /// The day and the cycle of a roster stand behind it.

@@ -3,7 +3,7 @@
 use super::answer::Answer;
 use super::call::{Call, Sort};
 use super::file::{By, Request, Run};
-use crate::layout::{is_query, least_size, CHECKPOINT_KIND, SHEET_KIND, START_KIND};
+use crate::layout::{is_checkpoint, is_query, least_size, SHEET_KIND, START_KIND};
 
 /// Makes a call with an output slice of some length, and gives the image that it wrote.
 pub type Each<'a> = &'a mut dyn FnMut(&Request, &Call, usize) -> Result<Option<Vec<u8>>, String>;
@@ -94,7 +94,7 @@ fn in_run(request: &Request, node: &mut Option<Vec<u8>>, each: Each) -> Result<b
     let records: Vec<Vec<u8>> = request.items.iter().map(|i| i.bytes.clone()).collect();
     let kinds: Option<Vec<u16>> = records.iter().map(|r| framed_kind(r)).collect();
     let sort = match kinds.as_deref() {
-        Some([19, 16]) => Sort::Start,
+        Some([19, kind]) if is_checkpoint(*kind) => Sort::Start,
         Some([1..=9, 18]) if node.is_some() => Sort::Deliver,
         Some([kind]) if is_query(*kind) && node.is_some() => Sort::Query,
         _ if request.answer == Answer::No(1) => return Ok(false),
@@ -116,7 +116,7 @@ fn framed_kind(record: &[u8]) -> Option<u16> {
     let size = 2 + usize::from(u16::from_le_bytes([low, high]));
     let kind = u16::from_le_bytes([kind_low, kind_high]);
     let is_placed =
-        matches!(kind, 1..=9 | CHECKPOINT_KIND | SHEET_KIND | START_KIND) || is_query(kind);
+        matches!(kind, 1..=9 | SHEET_KIND | START_KIND) || is_checkpoint(kind) || is_query(kind);
     (is_placed && record.len() == size && size >= least_size(kind)).then_some(kind)
 }
 

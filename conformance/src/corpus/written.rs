@@ -5,14 +5,14 @@
 use super::call::{Call, Numbers, Sort};
 use crate::compare::call::VOTED;
 use crate::layout::{self, door_of, kind_of, least_size, ANNOUNCEMENT_SIZE, ARGUMENTS};
-use crate::layout::{CHECKPOINT_SIZE, IMAGE_SIZE, LOGIN, MISSES_AT, VOTE, VOTED_AT};
+use crate::layout::{to_current, CHECKPOINT_SIZE, IMAGE_SIZE, LOGIN, MISSES_AT, VOTE, VOTED_AT};
 
 const OWN_AT: usize = CHECKPOINT_SIZE;
 
 pub fn check(call: &Call, number: u32, written: &[u8]) -> Result<(), String> {
     let sizes: Vec<usize> = call.slices.iter().map(Vec::len).collect();
     let whole: &[usize] = match call.sort {
-        Sort::Start => &[CHECKPOINT_SIZE, 9],
+        Sort::Start => &[least_size(kind_of(&call.slices[0])), 9],
         Sort::Deliver => &[IMAGE_SIZE, 24],
         Sort::Query => &[IMAGE_SIZE, least_size(kind_of(&call.slices[1]))],
         Sort::Checkpoint | Sort::Page => &[IMAGE_SIZE],
@@ -35,8 +35,10 @@ fn expected(call: &Call, number: u32, written: &[u8]) -> Vec<u8> {
         (Sort::Page, _) => out = written.to_vec(),
         (Sort::Import, _) => out = imported(call.numbers, written),
         (Sort::Export, _) => out = exported(&call.slices[0], written),
-        // "Misses 0, no vote." The start record has seat and life behind its four bytes.
+        // "Misses 0, no vote." The start record has seat and life behind its four bytes. "kind 26 is the
+        // one written" (request A7).
         (Sort::Start, _) => {
+            out = to_current(&out).into_owned();
             out.extend(&call.slices[1][4..]);
             out.resize(IMAGE_SIZE, 0);
         }

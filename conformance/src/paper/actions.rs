@@ -1,7 +1,7 @@
 //! What the nine actions do to a state.
 
 use super::announcement::{Action, Announcement};
-use super::state::{Day, Login, Proposal, Seat, Standing, State};
+use super::state::{Day, Login, Notices, Proposal, Seat, Standing, State};
 
 /// Request A3: "Lapsed rows, judged by the announced day, are dropped".
 pub fn without_lapsed(state: &State, announced: Day) -> State {
@@ -18,21 +18,23 @@ fn is_lapsed(proposal: &Proposal, announced: Day) -> bool {
 /// Where in the list "the ripe proposal of lowest cycle with the same kind and arguments" stands.
 pub fn ripe(state: &State, announcement: &Announcement) -> Option<usize> {
     let listed = state.proposals.iter().enumerate();
-    let fitting = listed.filter(|(_, p)| is_equal(p, announcement) && is_ripe(p, announcement.day));
+    let in_time = |p: &Proposal| is_ripe(p, announcement.day, state.notices);
+    let fitting = listed.filter(|(_, p)| is_equal(p, announcement) && in_time(p));
     fitting.min_by_key(|(_, p)| p.cycle).map(|(at, _)| at)
 }
 
+/// The arguments are compared as bytes: a notice of zero is equal to zero alone (request A7).
 fn is_equal(proposal: &Proposal, announcement: &Announcement) -> bool {
     proposal.subject == announcement.subject()
 }
 
 /// "ripe means announced day minus proposal day is at least 7"; request A3: "ripe from 7 to 60 days";
-/// request A6, of a rejoin's: "ripe from 2 to 60 days".
-fn is_ripe(proposal: &Proposal, announced: Day) -> bool {
-    let least = match proposal.subject.kind {
-        7 => 2,
-        _ => 7,
-    };
+/// request A6, of a rejoin's: "ripe from 2 to 60 days"; request A7 lets the park set the 7 and the 2.
+fn is_ripe(proposal: &Proposal, announced: Day, in_force: Notices) -> bool {
+    let least = i64::from(match proposal.subject.kind {
+        7 => in_force.restart,
+        _ => in_force.ordinary,
+    });
     (least..=60).contains(&announced.since(proposal.day))
 }
 
@@ -40,6 +42,7 @@ fn is_ripe(proposal: &Proposal, announced: Day) -> bool {
 /// announcement, since rule 12 asks what an action would leave.
 pub fn perform(state: &State, announcement: &Announcement) -> State {
     let mut next = state.clone();
+    // Request A7: "Ripeness is judged by the notices in force before the action."
     if announcement.is_proposed() {
         use_up(&mut next, announcement);
     }
@@ -67,7 +70,10 @@ fn act(state: &mut State, announcement: &Announcement) {
         // "drops that cycle's proposal"
         Action::Cancel(cycle) => state.proposals.retain(|p| p.cycle != *cycle),
         // "sets them"
-        Action::Minima(minima) => state.minima = *minima,
+        Action::Minima(minima, named) => {
+            state.minima = *minima;
+            set_notices(&mut state.notices, *named);
+        }
         // "adds or replaces the login"
         Action::Grant { login, end, rights } => {
             let (end, rights) = (*end, *rights);
@@ -76,6 +82,16 @@ fn act(state: &mut State, announcement: &Announcement) {
         // "drops it"
         Action::End { login } => drop(state.logins.remove(login)),
         of_seat => act_on_seat(state, of_seat),
+    }
+}
+
+/// Request A7: "zero meaning keep".
+fn set_notices(in_force: &mut Notices, named: Notices) {
+    if named.ordinary != 0 {
+        in_force.ordinary = named.ordinary;
+    }
+    if named.restart != 0 {
+        in_force.restart = named.restart;
     }
 }
 

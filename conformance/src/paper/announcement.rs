@@ -2,16 +2,16 @@
 //! ones zero."
 
 use super::bytes::{all_zero, record, require, Malformed, Read, Reader};
-use super::state::{Cycle, Day, Minima, Subject};
+use super::state::{Cycle, Day, Minima, Notices, Subject};
 
-/// The nine actions with their arguments.
+/// The nine actions with their arguments. Of a minima's notices zero means keep (request A7).
 #[derive(Debug, Clone, PartialEq, Eq)]
 pub enum Action {
     Propose(Subject),
     Cancel(Cycle),
     Presents { seat: u8, flag: bool },
     Certify { seat: u8, life: u32 },
-    Minima(Minima),
+    Minima(Minima, Notices),
     Remove { seat: u8 },
     Rejoin { seat: u8, life: u32 },
     Grant { login: u32, end: Day, rights: u16 },
@@ -66,7 +66,7 @@ fn read_action(kind: u16, bytes: &[u8]) -> Read<Action> {
         2 => Action::Cancel(Cycle::new(reader.u32()?)),
         3 => read_presents(&mut reader)?,
         4 => read_certify(&mut reader)?,
-        5 => Action::Minima(read_minima(&mut reader)?),
+        5 => Action::Minima(read_minima(&mut reader)?, read_notices(&mut reader)?),
         6 => Action::Remove {
             seat: reader.seat()?,
         },
@@ -128,6 +128,17 @@ pub fn read_minima(reader: &mut Reader) -> Read<Minima> {
         least_quorum,
         silence,
     })
+}
+
+/// Request A7: "The minima action takes two more bytes, ordinary notice and restart notice, 1 to 30 days
+/// each, zero meaning keep."
+pub fn read_notices(reader: &mut Reader) -> Read<Notices> {
+    let ordinary = reader.u8()?;
+    let restart = reader.u8()?;
+    // "A notice above 30 is rule 1."
+    require(ordinary <= 30)?;
+    require(restart <= 30)?;
+    Ok(Notices { ordinary, restart })
 }
 
 /// "seat 1, life 4"; life 0 is well formed and meets rule 9, 10 or 14.

@@ -1,30 +1,34 @@
-//! "Checkpoint, 1,108 bytes, length 1,106, kind 16": read into a state and written from one.
+//! "Checkpoint, 1,108 bytes, length 1,106, kind 16", and request A7's "checkpoint of kind 26, length
+//! 1,108 (1,110 bytes in all)": both are read into a state, and "kind 26 is the one written".
 
 use std::collections::BTreeMap;
 
-use super::announcement::{read_minima, read_subject};
+use super::announcement::{read_minima, read_notices, read_subject};
 use super::bytes::{all_zero, push_u16, push_u32, record, require, Read, Reader};
-use super::state::{Cycle, Day, Login, Proposal, Seat, Standing, State};
+use super::state::{Cycle, Day, Login, Notices, Proposal, Seat, Standing, State};
 use super::state::{MOST_LOGINS, MOST_PROPOSALS, SEATS};
 
-pub const SIZE: usize = 1108;
+/// Of the one that is written.
+pub const SIZE: usize = 1110;
 const PROPOSAL_SIZE: usize = 18;
 const LOGIN_SIZE: usize = 10;
 
 pub fn read(bytes: &[u8]) -> Read<State> {
     let (kind, mut reader) = record(bytes)?;
-    require(kind == 16)?;
+    require(kind == 16 || kind == 26)?;
     let cycle = reader.u32()?;
     require(cycle >= 1)?;
     let day = reader.u32()?;
     let trustees = [read_trustees(&mut reader)?, read_trustees(&mut reader)?];
     let minima = read_minima(&mut reader)?;
+    let notices = read_in_force(kind, &mut reader)?;
     let seats = (0..SEATS).map(|_| read_seat(&mut reader));
     let state = State {
         cycle: Cycle::new(cycle),
         day: Day::new(day),
         trustees,
         minima,
+        notices,
         seats: seats.collect::<Read<_>>()?,
         proposals: read_proposals(&mut reader)?,
         logins: read_logins(&mut reader)?,
@@ -41,6 +45,21 @@ fn read_trustees(reader: &mut Reader) -> Read<u8> {
     let trustees = reader.u8()?;
     require((1..=8).contains(&trustees))?;
     Ok(trustees)
+}
+
+/// Request A7: "They join the synchronised state after S in a checkpoint of kind 26 .., where zero is
+/// malformed."; "Kind 16 is still read, with 7 and 2".
+fn read_in_force(kind: u16, reader: &mut Reader) -> Read<Notices> {
+    if kind == 16 {
+        return Ok(Notices {
+            ordinary: 7,
+            restart: 2,
+        });
+    }
+    let notices = read_notices(reader)?;
+    require(notices.ordinary >= 1)?;
+    require(notices.restart >= 1)?;
+    Ok(notices)
 }
 
 /// "standing 1, life 4"; "Life is 32 bits, 0 exactly at free seats."
@@ -104,16 +123,17 @@ fn read_login(row: &[u8]) -> Read<(u32, Login)> {
     Ok((login, Login { end, rights }))
 }
 
-/// Each state has one checkpoint: the rows that are left are zero.
+/// "one state still has one kind-26 checkpoint" (request A7): the rows that are left are zero.
 pub fn write(state: &State) -> Vec<u8> {
     let mut out = Vec::with_capacity(SIZE);
-    push_u16(&mut out, 1106);
-    push_u16(&mut out, 16);
+    push_u16(&mut out, 1108);
+    push_u16(&mut out, 26);
     push_u32(&mut out, state.cycle.number());
     push_u32(&mut out, state.day.number());
     out.extend(state.trustees);
     out.extend([state.minima.margin, state.minima.least_quorum]);
     push_u16(&mut out, state.minima.silence);
+    out.extend([state.notices.ordinary, state.notices.restart]);
     for seat in &state.seats {
         out.push(seat.standing as u8);
         push_u32(&mut out, seat.life);

@@ -1,5 +1,5 @@
-//! "Image for C", which "grows by 3 bytes at its end" (request A5), and the calls of document 01 as C
-//! sees them.
+//! "Image for C", which "grows by 3 bytes at its end" (request A5) and "by the same two bytes" as its
+//! checkpoint (request A7), and the calls of document 01 as C sees them.
 
 use super::announcement::Announcement;
 use super::bytes::{all_zero, push_u32, require, Read, Reader};
@@ -10,8 +10,8 @@ use super::start::start_read;
 use super::state::{Standing, State};
 use super::Answer::{self, Done, Given, No, Open, Started, Voted};
 
-/// "1,139 bytes" and "the counts of doors 1 to 3"
-pub const SIZE: usize = 1142;
+/// "1,139 bytes", "the counts of doors 1 to 3" and the two notices
+pub const SIZE: usize = 1144;
 
 impl Node {
     pub fn from_image(image: &[u8]) -> Option<Node> {
@@ -32,7 +32,8 @@ impl Node {
 
 /// "checkpoint; seat 1, life 4 (at least 1), voted flag 1 (0 or 1), voted announcement 24 (zero if
 /// none, else well formed and of this cycle), misses 1. The seat isn't free." The misses byte is door
-/// 0's count, "the counts of doors 1 to 3" follow it (request A5).
+/// 0's count, "the counts of doors 1 to 3" follow it (request A5). The checkpoint is one of kind 26,
+/// which alone has this size (request A7).
 fn read(image: &[u8]) -> Read<Node> {
     let mut reader = Reader::new(image);
     let state = checkpoint::read(reader.take(checkpoint::SIZE)?)?;
@@ -91,7 +92,8 @@ fn writes_image(answer: Answer) -> bool {
 }
 
 /// "output slice shorter than 1,108 (checkpoint) or 1,139 (image)"; the image grows by 3 bytes, "and
-/// rule 22's image size with it" (request A5).
+/// rule 22's image size with it" (request A5); both grow by two, "and rule 22's sizes follow" (request
+/// A7).
 fn is_short(out: &[u8], size: usize) -> bool {
     out.len() < size
 }

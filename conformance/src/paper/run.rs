@@ -53,6 +53,7 @@ fn least_size(kind: u16) -> Option<usize> {
     Some(match kind {
         1..=9 => 24,
         16 => 1108,
+        26 => 1110,
         18 => 7,
         19 => 9,
         20 => 13,
@@ -90,10 +91,10 @@ impl<'a> Run<'a> {
         Ok((kind, record))
     }
 
-    /// The second record of a request.
-    fn second(&mut self, expected: u16) -> Result<&'a [u8], Ends> {
+    /// The second record of a request, of one of these kinds.
+    fn second(&mut self, expected: &[u16]) -> Result<&'a [u8], Ends> {
         let (kind, record) = self.record()?;
-        if kind == expected {
+        if expected.contains(&kind) {
             Ok(record)
         } else {
             Err(Ends)
@@ -104,8 +105,9 @@ impl<'a> Run<'a> {
     fn request(&mut self) -> Result<Answer, Ends> {
         let (kind, first) = self.record()?;
         match kind {
+            // Request A7: "node-run places it like 16".
             19 => {
-                let checkpoint = self.second(16)?;
+                let checkpoint = self.second(&[16, 26])?;
                 Ok(self.start(checkpoint, first))
             }
             1..=9 => self.deliver(first),
@@ -132,7 +134,7 @@ impl<'a> Run<'a> {
         if self.node.is_none() {
             return Err(Ends);
         }
-        let sheet = self.second(18)?;
+        let sheet = self.second(&[18])?;
         let node = self.node.as_mut().ok_or(Ends)?;
         Ok(node.deliver(announcement, sheet))
     }

@@ -116,6 +116,13 @@ pub struct Minima {
     pub silence: u16,
 }
 
+/// Request A7: "ordinary notice and restart notice, 1 to 30 days each".
+#[derive(Debug, Clone, Copy, PartialEq, Eq)]
+pub struct Notices {
+    pub ordinary: u8,
+    pub restart: u8,
+}
+
 /// What the nodes of a park agree on. The tables hold used rows only.
 #[derive(Debug, Clone, PartialEq, Eq)]
 pub struct State {
@@ -123,6 +130,8 @@ pub struct State {
     pub day: Day,
     pub trustees: [u8; 2],
     pub minima: Minima,
+    /// "They join the synchronised state after S" (request A7).
+    pub notices: Notices,
     pub seats: Vec<Seat>,
     pub proposals: Vec<Proposal>,
     pub logins: BTreeMap<u32, Login>,

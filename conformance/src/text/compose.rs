@@ -5,8 +5,9 @@ mod own;
 pub mod words;
 
 use crate::layout::{record, Field, Form, ACTIONS, ARGUMENTS_SIZE, SUBJECT_SIZE};
-use crate::layout::{CYCLE_AND_DAY, DOOR, LIFE, MASKS, QUERY, ROW_COUNT, SEAT, START};
+use crate::layout::{CYCLE_AND_DAY, DOOR, LIFE, MASKS, MINIMA, MINIMA_KIND, NAMED_NOTICES, QUERY};
 use crate::layout::{DOOR_QUERY_KIND, QUERY_KIND, SHEET_KIND, START_KIND};
+use crate::layout::{ROW_COUNT, SEAT, START};
 use words::{Error, Parse, Word, Words};
 
 /// The bytes of a text, and where they come from.
@@ -154,8 +155,21 @@ fn action(line: &mut Words, expected: &str) -> Parse<(u16, Vec<u8>)> {
     let Some(place) = named else {
         return Err(word.is_not(expected));
     };
-    let (_, fields) = ACTIONS[1 + place];
-    Ok((2 + place as u16, values(line, fields)?))
+    let kind = 2 + place as u16;
+    let arguments = match kind {
+        MINIMA_KIND => minima(line)?,
+        _ => values(line, ACTIONS[1 + place].1)?,
+    };
+    Ok((kind, arguments))
+}
+
+/// What follows `minima`: one that names no notices keeps both, and their bytes are zero.
+fn minima(line: &mut Words) -> Parse<Vec<u8>> {
+    let mut arguments = values(line, &MINIMA)?;
+    if line.begins_with(&[NAMED_NOTICES[0].name]) {
+        arguments.extend(values(line, &NAMED_NOTICES)?);
+    }
+    Ok(arguments)
 }
 
 /// "subject kind 2 (4, 5 or 6), its first 8 argument bytes", or 7 (request A6). Other kinds are written

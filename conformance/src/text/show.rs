@@ -7,6 +7,7 @@ mod records;
 
 use crate::layout::{framed, kind_of, number_at, query_fields, CHECKPOINT_KIND, CHECKPOINT_SIZE};
 use crate::layout::{DOOR_QUERY_KIND, IMAGE_SIZE, QUERY_KIND, SHEET_KIND, START, START_KIND};
+use crate::layout::{OLD_CHECKPOINT_KIND, OLD_CHECKPOINT_SIZE};
 use bytes::{malformed, Read};
 use checkpoint::checkpoint;
 use records::{announcement, sheet, simple};
@@ -31,13 +32,21 @@ pub struct Part<'a> {
 /// An image, where the input is one, and records otherwise.
 pub fn show(input: &[u8]) -> Shown {
     let records = shown(&parts_of_records(input));
+    let is_current = input.len() == IMAGE_SIZE
+        && framed(input) == CHECKPOINT_SIZE
+        && kind_of(input) == CHECKPOINT_KIND;
     // A checkpoint and 34 bytes of other records have the size of an image too.
-    let is_image = input.len() == IMAGE_SIZE && records.malformed;
-    if is_image && framed(input) == CHECKPOINT_SIZE && kind_of(input) == CHECKPOINT_KIND {
-        show_image(input)
-    } else {
-        records
+    match records.malformed && (is_current || is_old_image(input)) {
+        true => show_image(input),
+        false => records,
     }
+}
+
+/// Whether the input has the size of an image with a checkpoint of kind 16, and that at its front.
+fn is_old_image(input: &[u8]) -> bool {
+    input.len() == IMAGE_SIZE - CHECKPOINT_SIZE + OLD_CHECKPOINT_SIZE
+        && framed(input) == OLD_CHECKPOINT_SIZE
+        && kind_of(input) == OLD_CHECKPOINT_KIND
 }
 
 /// The checkpoint of an image and its own part.
@@ -80,7 +89,7 @@ fn record(bytes: &[u8]) -> Read<String> {
     }
     match kind_of(bytes) {
         1..=9 => announcement(bytes),
-        CHECKPOINT_KIND => checkpoint(bytes),
+        CHECKPOINT_KIND | OLD_CHECKPOINT_KIND => checkpoint(bytes),
         SHEET_KIND => sheet(bytes),
         START_KIND => simple("start", &START, bytes),
         kind @ (QUERY_KIND | DOOR_QUERY_KIND) => simple("query", query_fields(kind), bytes),
@@ -90,6 +99,9 @@ fn record(bytes: &[u8]) -> Read<String> {
 
 pub fn parts_of_image(input: &[u8]) -> Vec<Part<'_>> {
     let size = input.len();
+    if is_old_image(input) {
+        return parts_of_old_image(input);
+    }
     if size != IMAGE_SIZE {
         let why = format!("an image has {IMAGE_SIZE} bytes, not {size}");
         return vec![Part {
@@ -102,12 +114,29 @@ pub fn parts_of_image(input: &[u8]) -> Vec<Part<'_>> {
     let checkpoint = Part {
         at: 0,
         bytes: front,
-        read: checkpoint(front),
+        read: checkpoint::of_image(front),
     };
     let own = Part {
         at: CHECKPOINT_SIZE,
         bytes: own,
         read: own::own(front, own),
+    };
+    vec![checkpoint, own]
+}
+
+/// The checkpoint is one, but no image's.
+fn parts_of_old_image(input: &[u8]) -> Vec<Part<'_>> {
+    let (front, own) = input.split_at(OLD_CHECKPOINT_SIZE);
+    let why = "an image has a checkpoint of kind 26, and the one above is of kind 16";
+    let checkpoint = Part {
+        at: 0,
+        bytes: front,
+        read: checkpoint(front),
+    };
+    let own = Part {
+        at: OLD_CHECKPOINT_SIZE,
+        bytes: own,
+        read: malformed(0, why),
     };
     vec![checkpoint, own]
 }

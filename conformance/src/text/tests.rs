@@ -31,10 +31,15 @@ query login 501 day 121 right 0
 query login 501 day 132 right 0
 ";
 
-/// The first lines of it.
-fn first_checkpoint() -> String {
+/// The first lines of it: a checkpoint of kind 16.
+fn old_checkpoint() -> String {
     let lines: Vec<&str> = PRINTED_RUN.lines().skip(1).take(4).collect();
     lines.join("\n") + "\n"
+}
+
+/// The checkpoint of kind 26 for the same state.
+fn first_checkpoint() -> String {
+    old_checkpoint().replacen("S 30\n", "S 30 ordinary 7 restart 2\n", 1)
 }
 
 /// Pairs of lines: a text, in which " / " ends a line, and what is expected of it.

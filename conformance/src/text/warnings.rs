@@ -2,9 +2,7 @@
 
 use super::compose::Composed;
 use super::show::{parts_of_image, parts_of_records, Part};
-use crate::layout::{
-    kind_of, CHECKPOINT_KIND, DOOR_QUERY_KIND, QUERY_KIND, SHEET_KIND, START_KIND,
-};
+use crate::layout::{is_checkpoint, is_query, kind_of, SHEET_KIND, START_KIND};
 use crate::paper::announcement::Announcement;
 use crate::paper::records::{Query, Sheet, Start};
 use crate::paper::{checkpoint, Node};
@@ -40,11 +38,11 @@ fn warning(composed: &Composed, part: &Part, number: u8) -> String {
 pub fn refusal(record: &[u8]) -> Option<u8> {
     let is_read = match kind_of(record) {
         1..=9 => Announcement::read(record).is_ok(),
-        CHECKPOINT_KIND => checkpoint::read(record).is_ok(),
+        kind if is_checkpoint(kind) => checkpoint::read(record).is_ok(),
         SHEET_KIND if Sheet::read(record).is_err() => return Some(2),
         SHEET_KIND => true,
         START_KIND => Start::read(record).is_ok(),
-        QUERY_KIND | DOOR_QUERY_KIND => Query::read(record).is_ok(),
+        kind if is_query(kind) => Query::read(record).is_ok(),
         _ => false,
     };
     (!is_read).then_some(1)

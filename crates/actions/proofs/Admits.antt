@@ -88,6 +88,6 @@ full-only-when-full s d mask1 mask2 x =
     by-rule (not (isSigned s (levelOf (kindOf x)) mask1 mask2)) 8 _ 11 refl (λ e _. absurd (omega arith))
     (λ _ e. by (lowest-one _ (checkRefusal s d x) 11 e))
   where
-    by : (refuseIf (lacksNotice (s .proposals) d (subjectOf x)) 10 ≡ 11) ⊎ (checkRefusal s d x ≡ 11) → Full s
+    by : (refuseIf (lacksNotice s d (subjectOf x)) 10 ≡ 11) ⊎ (checkRefusal s d x ≡ 11) → Full s
     by (inl e) = never (search others depth 9) e
     by (inr e) = full-check s d x e

@@ -17,7 +17,7 @@ use Rattle.state.specs.declared.State.{State}
 use Rattle.state.specs.Limits.{proposalRows}
 use Rattle.state.specs.Rows.{noProposal, isProposal}
 use Rattle.state.specs.WellFormed.{cycleOf}
-use Rattle.tables.specs.Proposals.{isOfCycle, addProposal, dropProposal, validDays, isLapsed, dropLapsed, isMature, matureProposal}
+use Rattle.tables.specs.Proposals.{isOfCycle, addProposal, dropProposal, validDays, isLapsed, dropLapsed, isMature, matureProposal, noticeIn}
 use Rattle.tables.specs.Claims.{IsNotice}
 use Rattle.tables.proofs.Lapse.{subject-used, left-of, only-lapsed-go, mature-is-notice}
 use Rattle.records.specs.declared.Announcement.{Announcement}
@@ -77,7 +77,7 @@ none-older s a r m u = by (before (withoutLapsed (a .day) s) (a .day) r u (a .ac
 
 -- The table after an action that has a subject: the first mature proposal is dropped.
 used-table : (s : State) (d : Day) (x : Action) → subjectOf x .kind ≢ 0
-    → act s d x .proposals ≡ dropProposal (matureProposal (subjectOf x) d (s .proposals) .cycle) (s .proposals)
+    → act s d x .proposals ≡ dropProposal (noticeIn s (subjectOf x) d .cycle) (s .proposals)
 unfolding act effect withStanding withLife useProposal
 used-table s d (Propose x) k = absurd (k refl)
 used-table s d (Cancel c) k = absurd (k refl)
@@ -90,12 +90,12 @@ used-table s d (Grant x) k = absurd (k refl)
 used-table s d (End login) k = absurd (k refl)
 
 module _ (s : State) (a : Announcement) (w : WellFormed s) (k : subjectOf (a .action) .kind ≢ 0)
-    (n : Noticed (s .proposals) (a .day) (subjectOf (a .action))) where
+    (n : Noticed s (a .day) (subjectOf (a .action))) where
   abbrev left : List Proposal
   left = dropLapsed (a .day) (s .proposals)
 
   abbrev used : Proposal
-  used = found (s .proposals) (a .day) (subjectOf (a .action))
+  used = found s (a .day) (subjectOf (a .action))
 
   is-used : isProposal used ≡ true
   is-used = subject-used used k (n .notice .same)
@@ -119,10 +119,10 @@ module _ (s : State) (a : Announcement) (w : WellFormed s) (k : subjectOf (a .ac
           let same = eqb-true (r .cycle .0) (used .cycle .0) (and-eq-true-iff (isProposal r) _ .0 f .1) in
           absurd (d (rising-one (sound-of s w .proposals .rising) m (n .listed) u is-used (omega arith)))
 
-  lowest : (r : Proposal) → List·Memᴰ r (s .proposals) → IsNotice (subjectOf (a .action)) (a .day) r → cycleOf used ≤ cycleOf r
+  lowest : (r : Proposal) → List·Memᴰ r (s .proposals) → IsNotice (s .minima .notices) (subjectOf (a .action)) (a .day) r → cycleOf used ≤ cycleOf r
   lowest r m h =
-      let t = mature-is-notice (subjectOf (a .action)) k (a .day) (s .proposals) r .mature m h in
-      first-lowest (isMature (subjectOf (a .action)) (a .day)) noProposal (without-lapsed (sound-of s w) (a .day) .proposals .rising) (t .0)
+      let t = mature-is-notice (s .minima .notices) (subjectOf (a .action)) k (a .day) (s .proposals) r .mature m h in
+      first-lowest (isMature (s .minima .notices) (subjectOf (a .action)) (a .day)) noProposal (without-lapsed (sound-of s w) (a .day) .proposals .rising) (t .0)
       (subject-used r k (h .same)) (t .1)
 
 -- Rule 10: an action that has a subject uses up the notice of lowest cycle, and no other.
@@ -131,7 +131,7 @@ unfolding noticeRefusal
 always-notified s a mask1 mask2 w p k =
     let x = subjectOf (a .action) in
     let passed = action-passes (withoutLapsed (a .day) s) (a .day) mask1 mask2 (a .action) (p .action) .notified in
-    let n = has-notice (s .proposals) (a .day) x k (unrefused (lacksNotice (dropLapsed (a .day) (s .proposals)) (a .day) x) 10 refl passed) in
+    let n = has-notice s (a .day) x k (unrefused (lacksNotice (withoutLapsed (a .day) s) (a .day) x) 10 refl passed) in
     record {
       proposal = used s a w k n;
       listed = n .listed;

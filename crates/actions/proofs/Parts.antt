@@ -16,7 +16,7 @@ use Rattle.state.specs.Limits.{seatCount}
 use Rattle.state.specs.Time.{nextCycle}
 use Rattle.state.specs.Seats.{seatAt}
 use Rattle.state.specs.Update.{with, withTime, withProposals, withLogins}
-use Rattle.tables.specs.Proposals.{matureProposal}
+use Rattle.tables.specs.Proposals.{noticeIn}
 use Rattle.tables.specs.Logins.{grantLogin, endLogin}
 use Rattle.records.proofs.Action.{the-type}
 use Rattle.records.specs.declared.Action.{Action}
@@ -43,7 +43,7 @@ module _ (s : State) (d : Day) where
 
   abbrev finished : Action → State
   finished x =
-      let notice = matureProposal (subjectOf x) d (s .proposals) in
+      let notice = noticeIn s (subjectOf x) d in
       withProposals (proposalsAfter (s .proposals) (notice .cycle) (s .cycle) d x) (begun x)
 
   -- a seat beyond the last is not listed

@@ -21,14 +21,14 @@ use Rattle.state.specs.declared.Login.{Login}
 use Rattle.state.specs.declared.State.{State}
 use Rattle.state.specs.Limits.{seatCount, proposalRows, loginRows}
 use Rattle.state.specs.Time.{cycle, isBeforeCycle}
-use Rattle.state.specs.Minima.{isInRange}
+use Rattle.state.specs.Minima.{isInRange, isInForce, setOver}
 use Rattle.state.specs.Update.{with, withTime, withMinima, withSeats, withProposals, withLogins}
 use Rattle.state.specs.Seats.{present, seatAt, setSeat, isPresent, presentSeats, quorum, quorumOf}
 use Rattle.state.specs.Rows.{noProposal, isProposal, isLogin}
 use Rattle.tables.specs.Proposals.{dropProposal, dropLapsed}
 use Rattle.state.specs.WellFormed.{isTrusteeCount, cycleOf, isWellFormedSeat, isWellFormedProposal, isWellFormedLogin}
 use Rattle.state.specs.WellFormed.{areWellFormedProposals, areWellFormedLogins, isWellFormed}
-use Rattle.state.proofs.MinimaRanges.{in-range}
+use Rattle.state.proofs.MinimaRanges.{in-force, set-in-force}
 use Rattle.state.proofs.SeatLaws.{present-set}
 use Rattle.state.proofs.ProposalRows.{proposal-ages}
 use Rattle.checkpoint.specs.Format as format
@@ -52,8 +52,8 @@ LoginTable = IsTable isLogin (λ r. r .login) 1 loginRows (Good format.login isW
 -- All of a well-formed state but its cycle and day: its proposals are those of a state of cycle c and day d.
 pub record Sound (c : Cycle) (d : Day) (s : State) : Type 0 where
   pub trustees : (s .trustees1 < 256) × (s .trustees2 < 256)
-  pub minima : format.minima .Fits (s .minima)
-  pub ranges : (isTrusteeCount (s .trustees1) && (isTrusteeCount (s .trustees2) && isInRange (s .minima))) ≡ true
+  pub minima : format.minima format.notices .Fits (s .minima)
+  pub ranges : (isTrusteeCount (s .trustees1) && (isTrusteeCount (s .trustees2) && isInForce (s .minima))) ≡ true
   pub seats : SeatTable (s .seats)
   pub enough : quorumOf s ≤ presentSeats (s .seats)
   pub proposals : ProposalTable c d (s .proposals)
@@ -72,7 +72,7 @@ sound-of s w =
     let head = w .fits .0 in
     let tables = w .fits .1 in
     let e1 = and-eq-true-iff (isBeforeCycle (cycle 0) (s .cycle)) _ .0 (w .well-formed) in
-    let e2 = and-eq-true-iff (isTrusteeCount (s .trustees1) && (isTrusteeCount (s .trustees2) && isInRange (s .minima))) _ .0 (e1 .1) in
+    let e2 = and-eq-true-iff (isTrusteeCount (s .trustees1) && (isTrusteeCount (s .trustees2) && isInForce (s .minima))) _ .0 (e1 .1) in
     let e3 = and-eq-true-iff (all isWellFormedSeat (s .seats)) _ .0 (e2 .1) in
     let e4 = and-eq-true-iff (leb (quorumOf s) (presentSeats (s .seats))) _ .0 (e3 .1) in
     let e5 = and-eq-true-iff (areWellFormedProposals (s .cycle) (s .day) (s .proposals)) _ .0 (e4 .1) in
@@ -85,6 +85,15 @@ sound-of s w =
       proposals = table-of format.proposal (isWellFormedProposal (s .cycle) (s .day)) _ _ _ _ _ (tables .1 .0 .1) (e5 .0);
       logins = table-of format.login isWellFormedLogin _ _ _ _ _ (tables .1 .1 .1) (e5 .1);
     }
+
+-- Its minima are in force.
+in-force-of : {c : Cycle} {d : Day} {s : State} → Sound c d s → isInForce (s .minima) ≡ true
+in-force-of {s = s} h =
+    let e1 = and-eq-true-iff (isTrusteeCount (s .trustees1)) _ .0 (h .ranges) in
+    and-eq-true-iff (isTrusteeCount (s .trustees2)) _ .0 (e1 .1) .1
+
+pub well-formed-in-force : (s : State) → WellFormed s → isInForce (s .minima) ≡ true
+well-formed-in-force s w = in-force-of (sound-of s w)
 
 module _ {c : Cycle} {d : Day} {s : State} (h : Sound c d s) where
   -- With that cycle and day it is well formed.
@@ -151,16 +160,18 @@ module _ {c : Cycle} {d : Day} {s : State} (h : Sound c d s) where
       (q _ (present-set (s .seats) i standing life (let k = h .seats .0 in omega arith))) (h .proposals) (h .logins)
 
   pub with-minima : (x : Minima) → isInRange x ≡ true → quorum (presentSeats (s .seats)) (x .margin) (x .least) ≤ presentSeats (s .seats) → Sound c d
-      (withMinima x s)
+      (withMinima (setOver (s .minima) x) s)
   unfolding quorumOf
   with-minima x r q =
       let e1 = and-eq-true-iff (isTrusteeCount (s .trustees1)) _ .0 (h .ranges) in
       let e2 = and-eq-true-iff (isTrusteeCount (s .trustees2)) _ .0 (e1 .1) in
-      let k = in-range x r in
+      let f = set-in-force (s .minima) x (in-force-of h) r in
+      let k = in-force (setOver (s .minima) x) f in
+      let n = k .ranges in
       record {
         trustees = h .trustees;
-        minima = (omega arith, (omega arith, omega arith));
-        ranges = rw (e1 .0, e2 .0, r);
+        minima = (omega arith, (omega arith, (omega arith, (omega arith, omega arith))));
+        ranges = rw (e1 .0, e2 .0, f);
         seats = h .seats;
         enough = q;
         proposals = h .proposals;

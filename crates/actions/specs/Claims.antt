@@ -81,11 +81,12 @@ AlwaysSigned = (s : State) (a : Announcement) (mask1 mask2 : ℕ) → Admitted s
 -- the notice that an announced action with a subject uses up
 pub record UsesNotice (s : State) (a : Announcement) : Type 0 where
   pub proposal : Proposal
-  -- it is listed, and from 7 to 60 days before the announced day; that of a rejoin from 2 to 60
+  -- it is listed, and a notice by those in force before the action
   pub listed : List·Memᴰ proposal (s .proposals)
-  pub notice : IsNotice (subjectOf (a .action)) (a .day) proposal
+  pub notice : IsNotice (s .minima .notices) (subjectOf (a .action)) (a .day) proposal
   -- "of lowest cycle"
-  pub lowest : (r : Proposal) → List·Memᴰ r (s .proposals) → IsNotice (subjectOf (a .action)) (a .day) r → cycleOf proposal ≤ cycleOf r
+  pub lowest : (r : Proposal) → List·Memᴰ r (s .proposals) → IsNotice (s .minima .notices) (subjectOf (a .action)) (a .day) r
+      → cycleOf proposal ≤ cycleOf r
   -- this row is gone, and each other stays that has not lapsed
   pub gone : ¬ List·Memᴰ proposal (perform s a .proposals)
   pub others : (r : Proposal) → List·Memᴰ r (s .proposals) → isProposal r ≡ true → r ≢ proposal → isLapsed (a .day) r ≡ false

@@ -7,6 +7,7 @@ use Rattle.state.specs.declared.Cycle.{Cycle}
 use Rattle.state.specs.declared.Minima.{Minima}
 use Rattle.state.specs.declared.Seat.{Seat}
 use Rattle.state.specs.declared.Proposal.{Proposal}
+use Rattle.state.specs.Minima.{setOver}
 use Rattle.state.specs.Seats.{certified, present, retired}
 use Rattle.tables.specs.Proposals.{addProposal, dropProposal}
 use Rattle.records.specs.declared.Action.{Action}
@@ -30,7 +31,7 @@ minimaAfter minima (case.Propose x) = minima
 minimaAfter minima (case.Cancel c) = minima
 minimaAfter minima (case.Presents i flag) = minima
 minimaAfter minima (case.Certify i life) = minima
-minimaAfter minima (case.Minima x) = x
+minimaAfter minima (case.Minima x) = setOver minima x
 minimaAfter minima (case.Remove i) = minima
 minimaAfter minima (case.Rejoin i life) = minima
 minimaAfter minima (case.Grant x) = minima

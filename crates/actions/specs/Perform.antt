@@ -6,9 +6,10 @@ use Rattle.state.specs.declared.Day.{Day}
 use Rattle.state.specs.declared.Subject.{Subject}
 use Rattle.state.specs.declared.State.{State}
 use Rattle.state.specs.Time.{nextCycle}
+use Rattle.state.specs.Minima.{setOver}
 use Rattle.state.specs.Update.{withTime, withMinima, withSeats, withProposals, withLogins}
 use Rattle.state.specs.Seats.{certified, present, retired, seatAt, setSeat}
-use Rattle.tables.specs.Proposals.{addProposal, dropProposal, dropLapsed, matureProposal}
+use Rattle.tables.specs.Proposals.{addProposal, dropProposal, dropLapsed, noticeIn}
 use Rattle.tables.specs.Logins.{grantLogin, endLogin}
 use Rattle.records.specs.declared.Announcement.{Announcement}
 use Rattle.records.specs.declared.Action.{Action}
@@ -32,8 +33,8 @@ effect s d (Cancel c) = withProposals (dropProposal c (s .proposals)) s
 effect s d (Presents i flag) = withStanding i (cond flag present certified) s
 -- 4 certify: free to certified, with that life
 effect s d (Certify i life) = withSeats (setSeat i certified life (s .seats)) s
--- 5 minima: sets them
-effect s d (Minima x) = withMinima x s
+-- 5 minima: sets them; of the notices, "zero meaning keep"
+effect s d (Minima x) = withMinima (setOver (s .minima) x) s
 -- 6 remove: certified or present to retired
 effect s d (Remove i) = withStanding i retired s
 -- 7 rejoin: raises that seat's life
@@ -43,12 +44,13 @@ effect s d (Grant x) = withLogins (grantLogin x (s .logins)) s
 -- 9 end: drops it
 effect s d (End login) = withLogins (endLogin login (s .logins)) s
 
--- "also use up the ripe proposal of lowest cycle with the same kind and arguments", where the action has a subject
-unfoldable pub useProposal : Subject → Day → State → State
-useProposal x d s = cond (eqb (x .kind) 0) s (withProposals (dropProposal (matureProposal x d (s .proposals) .cycle) (s .proposals)) s)
+-- "also use up the ripe proposal of lowest cycle with the same kind and arguments", where the action has a subject: that of the state `before`, for
+-- "Ripeness is judged by the notices in force before the action."
+unfoldable pub useProposal : State → Subject → Day → State → State
+useProposal before x d s = cond (eqb (x .kind) 0) s (withProposals (dropProposal (noticeIn before x d .cycle) (s .proposals)) s)
 
 unfoldable pub act : State → Day → Action → State
-act s d x = useProposal (subjectOf x) d (effect s d x)
+act s d x = useProposal s (subjectOf x) d (effect s d x)
 
 -- "cycle plus 1, day as announced", and the action
 unfoldable pub advance : State → Announcement → State

@@ -68,7 +68,7 @@ fn minima_after(minima: Minima, action: Action) -> Minima
         Action::Cancel { cycle } => minima,
         Action::Presents { seat, flag } => minima,
         Action::Certify { seat, life } => minima,
-        Action::Minima { minima: x } => x,
+        Action::Minima { minima: x } => x.set_over(minima),
         Action::Remove { seat } => minima,
         Action::Rejoin { seat, life } => minima,
         Action::Grant { row } => minima,

@@ -4,7 +4,7 @@ use mathlib.Core.Logic.{_⊎_, inl, inr}
 use mathlib.Core.Bool.{Bool, true, cond, _&&_, and-eq-true-iff}
 use mathlib.Core.List.{List, [], _∷_, List·Memᴰ, List·Memᴰ·head, List·Memᴰ·tail, List·Memᴰ·cases-cons, List·Memᴰ·not-nil, map}
 use mathlib.Core.Option.{some}
-use Prim.Native.Nat.{ℕ, zero, suc}
+use Prim.Native.Nat.{ℕ, zero, suc, _+_}
 use native.Mathlib.Omega.{arith}
 use lib.Dec.{eqb, ltb}
 use lib.ListN.{getD, replicate}
@@ -17,6 +17,7 @@ use Rattle.state.specs.declared.State.{State}
 use Rattle.records.specs.declared.Announcement.{Announcement}
 use Rattle.records.specs.declared.AnnouncementRead.the-variants.{Read}
 use Rattle.records.specs.Announcement.{readAnnouncement}
+use Rattle.checkpoint.specs.Layout.{tablesAt, loginsAt}
 use Rattle.checkpoint.specs.Checkpoint.{checkpointBytes, isCheckpoint}
 use Rattle.node.specs.Start.{startOf}
 use Rattle.node.specs.Deliver.{deliverOf}
@@ -177,7 +178,7 @@ split A =
     let one : HeldIn divided = record { moment = _; inList = third; host = byValue 0; node = n; held = refl } in
     let other : HeldIn divided = record { moment = _; inList = fourth; host = throughC 1; node = k; held = refl } in
     let e = A one other refl in
-    let z : _≡_ {A = ℕ} 120 121 = ap (λ (b : List ℕ). getD b 472 0) e in
+    let z : _≡_ {A = ℕ} 120 121 = ap (λ (b : List ℕ). getD b (tablesAt + loginsAt + 4) 0) e in
     omega arith
 
 pub beyond-bound : BeyondBound

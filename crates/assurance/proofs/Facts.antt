@@ -8,13 +8,16 @@ use Rattle.records.specs.declared.Announcement.{Announcement}
 use Rattle.records.specs.Actions.{subjectOf}
 use Rattle.records.specs.Sheet.{level1, level2}
 use Rattle.checkpoint.specs.Checkpoint.{readCheckpoint}
-use Rattle.actions.specs.Perform.{withoutLapsed}
+use Rattle.checkpoint.proofs.Earlier.{accepted-state}
+use Rattle.records.proofs.Ranges.{announcements-in-range}
+use Rattle.actions.specs.Perform.{withoutLapsed, perform}
 use Rattle.actions.specs.Claims.{WellFormed, Admitted, Signed, UsesNotice, Found}
 use Rattle.actions.proofs.Admits.{always-signed, always-found}
 use Rattle.actions.proofs.Notified.{always-notified}
+use Rattle.actions.proofs.Performed.{keeps-well-formed}
 use Rattle.agreement.specs.History.{History}
-use Rattle.agreement.specs.Claims.{Park}
-use Rattle.agreement.specs.Chain.{Step, Reached}
+use Rattle.agreement.specs.Claims.{HoldsBytes, Park}
+use Rattle.agreement.specs.Chain.{Step, Reached, origin, next}
 use Rattle.agreement.proofs.Steps.{always}
 use Rattle.agreement.proofs.Demand.{does}
 
@@ -31,6 +34,13 @@ module _ (first : List ℕ) (calls : History) (park : Park first calls) (s : Sta
       subst (λ (z : State). Admitted z a (level1 (x .sheet)) (level2 (x .sheet))) (sym (p .state))
       (does (x .moment) s (x .bytes) a (x .sheet) p .accepted .admitted)
 
+  -- The state that it leaves is well formed too.
+  pub step-leaves : WellFormed (perform s a)
+  step-leaves =
+      let p = x .performed in
+      let h = subst HoldsBytes (p .called) (park .bytes (x .moment) (x .inList)) in
+      keeps-well-formed s a _ _ step-well-formed (announcements-in-range (x .bytes) a (h .0) (p .read) .1) step-admitted
+
   pub step-signed : Signed s (level1 (x .sheet)) (level2 (x .sheet)) (a .action)
   step-signed = always-signed s a _ _ step-admitted
 
@@ -45,3 +55,11 @@ module _ (first : List ℕ) (calls : History) (park : Park first calls) (s : Sta
       let p = x .performed in
       subst (Reached (readCheckpoint first .state) (Step calls)) (sym (p .state))
       (always first calls park (x .moment) (x .inList) .0 .held (p .host) (p .node) (p .held) .reach)
+
+-- Every state of the chain is well formed.
+pub reached-well-formed : (first : List ℕ) (calls : History) → Park first calls → {s : State} → Reached (readCheckpoint first .state) (Step calls) s
+    → WellFormed s
+reached-well-formed first calls park (origin e) =
+    let w = accepted-state first (park .first-bytes) (park .first-checkpoint) in
+    subst WellFormed (sym e) (record { fits = w .0; well-formed = w .1 })
+reached-well-formed first calls park (next r a R x e) = subst WellFormed (sym e) (step-leaves first calls park r a x)

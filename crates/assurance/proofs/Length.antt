@@ -10,8 +10,8 @@ use Rattle.binary.proofs.Rows.{rows-size, length-decodeRows}
 use Rattle.state.specs.Limits.{seatCount, proposalRows, loginRows}
 use Rattle.records.specs.Layout.{announcementSize, doorCount}
 use Rattle.checkpoint.specs.Layout.{checkpointSize}
-use Rattle.checkpoint.specs.Format.{seat, proposal, login}
-use Rattle.checkpoint.specs.Checkpoint.{decodeCheckpoint}
+use Rattle.checkpoint.specs.Format.{current, seat, proposal, login}
+use Rattle.checkpoint.specs.Checkpoint.{decodeAs}
 use Rattle.checkpoint.proofs.Written.{checkpoint-size}
 use Rattle.verdicts.specs.declared.Own.{Own}
 use Rattle.verdicts.specs.declared.AttemptCounts.{AttemptCounts}
@@ -34,9 +34,9 @@ own-size o c v m = simp (
 -- the image of a node that was read, with another number of misses at a door
 pub missed-size : (b : List ℕ) (door m : ℕ) → isImage b ≡ true
     → length (imageBytes (withCounts (withMisses door m (readImage b .node .counts)) (readImage b .node))) ≡ imageSize
-unfolding readImage decodeImage decodeCheckpoint imageBytes
+unfolding readImage decodeImage decodeAs imageBytes
 missed-size b door m e =
-    let s = decodeCheckpoint (take checkpointSize b) .state in
+    let s = decodeAs current (take checkpointSize b) .state in
     let state = checkpoint-size s (length-decodeRows seat seatCount _) (length-decodeRows proposal proposalRows _)
     (length-decodeRows login loginRows _) in
     let p = ownFields .decode (drop ownAt b) in

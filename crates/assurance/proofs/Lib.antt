@@ -20,5 +20,6 @@ pub mod Lapse
 pub mod Provenance
 pub mod Lives
 pub mod Restarts
+pub mod Settings
 pub mod Removed
 pub mod AccessPage

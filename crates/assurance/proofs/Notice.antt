@@ -3,7 +3,7 @@ use mathlib.Core.Path.{_≡_, sym, ap, _∙_, subst}
 use mathlib.Core.Logic.{_⊎_, inl, inr}
 use mathlib.Core.Bool.{true, and-eq-true-iff}
 use mathlib.Core.List.{List, List·Memᴰ}
-use Prim.Native.Nat.{ℕ, suc, _<_}
+use Prim.Native.Nat.{ℕ, suc, _≤_, _<_}
 use native.Mathlib.Omega.{arith}
 use borrow.Author.Tests.{eqb-true}
 use Rattle.lists.proofs.Every.{any-of}
@@ -12,16 +12,20 @@ use Rattle.state.specs.declared.Day.{Day}
 use Rattle.state.specs.declared.Cycle.{Cycle}
 use Rattle.state.specs.declared.Proposal.{Proposal}
 use Rattle.state.specs.declared.State.{State}
+use Rattle.state.specs.Time.{daysSince}
 use Rattle.state.specs.Rows.{isProposal}
+use Rattle.state.proofs.MinimaRanges.{notice-low}
 use Rattle.state.proofs.ProposalRows.{well-formed-proposed}
 use Rattle.tables.specs.Proposals.{isOfCycle, hasProposal, dropLapsed}
+use Rattle.tables.specs.Claims.{IsNotice}
 use Rattle.tables.proofs.Lapse.{subject-used, only-lapsed-go}
 use Rattle.records.specs.declared.Announcement.{Announcement}
 use Rattle.records.specs.declared.Action.the-variants.{Propose, Cancel}
 use Rattle.checkpoint.specs.Checkpoint.{readCheckpoint}
 use Rattle.actions.specs.Perform.{effect, useProposal, act, advance, withoutLapsed, perform}
 use Rattle.actions.specs.Claims.{WellFormed, Signed}
-use Rattle.actions.proofs.Sound.{sound-of}
+use Rattle.records.specs.Actions.{subjectOf}
+use Rattle.actions.proofs.Sound.{sound-of, well-formed-in-force}
 use Rattle.actions.proofs.Notified.{drop-gone, rowOf, before}
 use Rattle.agreement.specs.History.{History}
 use Rattle.agreement.specs.Claims.{Park}
@@ -89,6 +93,13 @@ module _ (first : List ℕ) (calls : History) (park : Park first calls) (r : Pro
 
 -- ---- an action that has a subject
 
+-- A notice of a well-formed state is a day old.
+at-least-a-day : (u : State) (r : Proposal) (b : Announcement) → WellFormed u → IsNotice (u .minima .notices) (subjectOf (b .action)) (b .day) r
+    → 1 ≤ daysSince (b .day) (r .day)
+at-least-a-day u r b w n =
+    let low = notice-low (u .minima) (subjectOf (b .action) .kind) (well-formed-in-force u w) in
+    omega (arith, n .days)
+
 pub always-noticed : AlwaysNoticed
 always-noticed first calls park u b x z =
     let n = step-notified first calls park u b x z in
@@ -100,6 +111,7 @@ always-noticed first calls park u b x z =
       row = r;
       listed = n .listed;
       notice = n .notice;
+      day-before = at-least-a-day u r b (step-well-formed first calls park u b x) (n .notice);
       proposed = stems first calls park r used (step-reached first calls park u b x) (n .listed);
       signed = step-signed first calls park u b x;
       once = λ v R. stays-over first calls park r used (record { passed = omega arith; gone = n .gone }) R .gone;

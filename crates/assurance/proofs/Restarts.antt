@@ -1,4 +1,4 @@
--- The notice of a rejoin, and the two days before a replacement's life is listed.
+-- The notice of a rejoin, and the days before a replacement's life is listed.
 use mathlib.Core.Path.{_≡_, refl, sym, ap, _∙_, subst}
 use mathlib.Core.Logic.{_≢_, _⊎_, inl, inr}
 use mathlib.Core.List.{List}
@@ -7,7 +7,7 @@ use native.Mathlib.Omega.{arith}
 use Rattle.state.specs.declared.State.{State}
 use Rattle.state.specs.Time.{daysSince}
 use Rattle.state.specs.Seats.{free, seatAt}
-use Rattle.state.specs.Subjects.{noticeDays}
+use Rattle.state.specs.Minima.{noticeDays}
 use Rattle.records.specs.declared.Announcement.{Announcement}
 use Rattle.records.specs.declared.Action.{Action}
 use Rattle.records.specs.Actions.{subjectOf}
@@ -30,7 +30,7 @@ rejoins-noticed first calls park u b x i life e =
     record {
       row = n .row;
       subject = n .notice .same ∙ ap subjectOf e;
-      least = subst (λ (z : Action). noticeDays (subjectOf z .kind) ≤ daysSince (b .day) (n .row .day)) e (n .notice .days);
+      least = subst (λ (z : Action). noticeDays (u .minima .notices) (subjectOf z .kind) ≤ daysSince (b .day) (n .row .day)) e (n .notice .days);
       most = n .notice .valid;
       proposed = n .proposed;
       signed = subst (Signed u _ _) e (n .signed);

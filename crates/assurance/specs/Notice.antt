@@ -3,10 +3,11 @@ use mathlib.Core.Path.{_≡_}
 use mathlib.Core.Logic.{_≢_}
 use mathlib.Core.Bool.{true}
 use mathlib.Core.List.{List, List·Memᴰ}
-use Prim.Native.Nat.{ℕ}
+use Prim.Native.Nat.{ℕ, _≤_}
 use Rattle.state.specs.declared.Cycle.{Cycle}
 use Rattle.state.specs.declared.Proposal.{Proposal}
 use Rattle.state.specs.declared.State.{State}
+use Rattle.state.specs.Time.{daysSince}
 use Rattle.state.specs.Trustees.{isMajority}
 use Rattle.state.specs.Rows.{isProposal}
 use Rattle.records.specs.declared.Announcement.{Announcement}
@@ -37,13 +38,15 @@ pub data Proposed (first : State) (calls : History) (u : State) (r : Proposal) :
       → r .cycle ≡ s .cycle → r .day ≡ a .day → isMajority (s .trustees1) (level1 (x .sheet)) ≡ true
       → Stays calls r (perform s a) u → Proposed first calls u r
 
--- Each performed action that has a subject (certify, minima, remove, rejoin) uses up a proposal of that subject, listed in its state and announced
--- from 7 to 60 days before, for a rejoin from 2 to 60, which stands in the first state or was proposed in the same chain and not cancelled, not used
--- before and not lapsed; a majority of the level of its kind signed it. No later state of the chain lists that row: one propose, one action.
+-- Each performed action that has a subject (certify, minima, remove, rejoin) uses up a proposal of that subject, listed in its state and announced at
+-- least the notice before that is in force in it, and at most 60 days, which stands in the first state or was proposed in the same chain and not
+-- cancelled, not used before and not lapsed; a majority of the level of its kind signed it. Whatever the park has set, a day at least lies
+-- between. No later state of the chain lists that row: one propose, one action.
 pub record Noticed (first : State) (calls : History) (u : State) (b : Announcement) (x : Step calls u b) : Type 0 where
   pub row : Proposal
   pub listed : Listed row u
-  pub notice : IsNotice (subjectOf (b .action)) (b .day) row
+  pub notice : IsNotice (u .minima .notices) (subjectOf (b .action)) (b .day) row
+  pub day-before : 1 ≤ daysSince (b .day) (row .day)
   pub proposed : Proposed first calls u row
   pub signed : Signed u (level1 (x .sheet)) (level2 (x .sheet)) (b .action)
   pub once : (v : State) → Reached (perform u b) (Step calls) v → ¬ Listed row v

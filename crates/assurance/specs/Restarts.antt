@@ -21,13 +21,13 @@ use Rattle.agreement.specs.Claims.{Park}
 use Rattle.agreement.specs.Chain.{Step, Reached}
 use Rattle.assurance.specs.Notice.{Listed, Proposed}
 
--- The notice of a rejoin of seat i under a life, performed from u: a proposal of that seat and life, from 2 to 60 announced days before, which stands in
--- the first state or was proposed in the chain, signed by a majority of level 1 (`Proposed`); a majority of level 1 signed the rejoin too. The row is
--- used up.
+-- The notice of a rejoin of seat i under a life, performed from u: a proposal of that seat and life, announced at least the restart notice of u before
+-- and at most 60 days, which stands in the first state or was proposed in the chain, signed by a majority of level 1 (`Proposed`); a majority of level
+-- 1 signed the rejoin too. The row is used up.
 pub record RejoinNotice (first : State) (calls : History) (u : State) (b : Announcement) (x : Step calls u b) (i life : ℕ) : Type 0 where
   pub row : Proposal
   pub subject : row .subject ≡ rejoins i life
-  pub least : 2 ≤ daysSince (b .day) (row .day)
+  pub least : u .minima .notices .restart ≤ daysSince (b .day) (row .day)
   pub most : daysSince (b .day) (row .day) ≤ 60
   pub proposed : Proposed first calls u row
   pub signed : isMajority (u .trustees1) (level1 (x .sheet)) ≡ true
@@ -39,7 +39,8 @@ RejoinsNoticed = (first : List ℕ) (calls : History) → Park first calls
     → (u : State) (b : Announcement) (x : Step calls u b) (i life : ℕ) → b .action ≡ Rejoin i life
     → RejoinNotice (readCheckpoint first .state) calls u b x i life
 
--- A rejoin of the chain of u gave seat i this life, and its proposal is at least 2 days older than the agreed day of u.
+-- A rejoin of the chain of u gave seat i this life, and its proposal is older than the agreed day of u by at least the restart notice that was in force
+-- in the state from which it was performed.
 pub record CooledOff (first : State) (calls : History) (u : State) (i life : ℕ) : Type 0 where
   pub from : State
   pub rejoin : Announcement
@@ -47,10 +48,10 @@ pub record CooledOff (first : State) (calls : History) (u : State) (i life : ℕ
   pub named : rejoin .action ≡ Rejoin i life
   pub notice : RejoinNotice first calls from rejoin step i life
   pub since : Reached (perform from rejoin) (Step calls) u
-  pub days : 2 ≤ daysSince (u .day) (notice .row .day)
+  pub days : from .minima .notices .restart ≤ daysSince (u .day) (notice .row .day)
 
 -- A vault is replaced: from one state of the chain to a later one the life of its seat, which is not free, changes. Then between the day on which that
--- life was announced and the agreed day of every state that lists it lie at least 2 announced days.
+-- life was announced and the agreed day of every state that lists it lies at least that restart notice.
 abbrev pub ReplacementsCoolOff : Type 0
 ReplacementsCoolOff = (first : List ℕ) (calls : History) → Park first calls
     → (s u : State) → Reached s (Step calls) u → (i : ℕ) → seatAt i (s .seats) .standing ≢ free

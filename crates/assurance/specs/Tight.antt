@@ -12,6 +12,7 @@ use Rattle.state.specs.Seats.{present, freeSeat}
 use Rattle.state.specs.Rows.{noProposal}
 use Rattle.state.specs.Rows.{noLogin}
 use Rattle.records.specs.Sheet.{Row, rowsOf, countedOnBoth}
+use Rattle.checkpoint.specs.Format.{earlierNotices}
 use Rattle.checkpoint.specs.Checkpoint.{checkpointBytes}
 use Rattle.examples.specs.Records.{grantTo}
 use Rattle.agreement.specs.History.{byValue, throughC, start, deliver, History, moments, answer, accepted}
@@ -19,7 +20,7 @@ use Rattle.agreement.specs.Claims.{PerformedIn, Park, Agreement}
 use Rattle.agreement.specs.NotIdle.{room}
 use Rattle.records.specs.Sheet.{sheetOf}
 
--- "Commissioned at cycle 1, day 100, one trustee per level", k=1, S=30, lists empty; here with margin m, and seats 0 to 2m present at life 1. The
+-- "Commissioned at cycle 1, day 100, one trustee per level", k=1, S=30, notices 7 and 2, lists empty; here with margin m, and seats 0 to 2m present at life 1. The
 -- quorum is then m+1+m, which is all of them.
 abbrev pub firstState : ℕ → State
 firstState m = record {
@@ -27,7 +28,7 @@ firstState m = record {
   day = day 100;
   trustees1 = 1;
   trustees2 = 1;
-  minima = record { margin = m; least = 1; silence = 30 };
+  minima = record { margin = m; least = 1; silence = 30; notices = earlierNotices };
   seats = replicate (2 * m + 1) (record { standing = present; life = 1 }) ++ replicate (31 - 2 * m) freeSeat;
   proposals = replicate proposalRows noProposal;
   logins = replicate loginRows noLogin;

@@ -8,7 +8,7 @@ use lib.ListN.{length, getD, take, drop, length-append, length-drop}
 use lib.Seq.{drop-at, take-add, take-all}
 use Rattle.lists.proofs.Every.{All, none, more}
 use Rattle.binary.specs.Number.{Bytes}
-use Rattle.binary.specs.Codec.{Codec, byte, number, onto, rows, encodeRows, decodeRows, FitsRows, _⊗_}
+use Rattle.binary.specs.Codec.{Codec, byte, number, constant, onto, rows, encodeRows, decodeRows, FitsRows, _⊗_}
 use Rattle.binary.proofs.Number.{number-length, number-read-back, number-fits, number-written-back, bytes-drop}
 
 infixr 60 _⊗-back_
@@ -49,6 +49,14 @@ number-laws w = record {
   reads = record { long = λ x h. number-length w x; back = number-read-back w };
   fits = λ b n h. number-fits w b h;
   forth = number-written-back w;
+}
+
+-- a value that is known
+pub constant-laws : {A : Type 0} (x : A) → Laws (constant x)
+constant-laws x = record {
+  reads = record { long = λ y h. refl; back = λ y h t. sym h };
+  fits = λ b n h. refl;
+  forth = λ b n h. refl;
 }
 
 -- one after the other

@@ -1,5 +1,6 @@
 -- Formats of a fixed width. A format is written once, and gives both how a value is written and how it is read.
 use Prim.Native.Nat.{ℕ, zero, suc, _+_, _*_, _^_, _<_}
+use mathlib.Core.Path.{_≡_}
 use mathlib.Core.List.{List, [], _∷_, _++_}
 use lib.ListN.{getD, drop}
 use Rattle.binary.specs.Number.{toBytes, fromBytes}
@@ -21,6 +22,10 @@ byte = record { width = 1; encode = λ x. x ∷ []; decode = λ b. getD b 0 0; F
 -- a little-endian number of w bytes
 abbrev pub number : ℕ → Codec ℕ
 number w = record { width = w; encode = toBytes w; decode = fromBytes w; Fits = λ x. x < 256 ^ w }
+
+-- no bytes, for a value that is known
+abbrev pub constant : {A : Type 0} → A → Codec A
+constant x = record { width = 0; encode = λ _. []; decode = λ _. x; Fits = λ y. y ≡ x }
 
 -- one after the other
 abbrev pub _⊗_ : {A B : Type 0} → Codec A → Codec B → Codec (A × B)

@@ -36,7 +36,7 @@ pub time-size : (c : Cycle) (d : Day) → length (timeBytes c d) ≡ parametersA
 unfolding timeBytes toBytes
 time-size c d = refl
 
-pub parameter-size : (trustees1 trustees2 : ℕ) (x : Minima) → length (parameterBytes trustees1 trustees2 x) ≡ 6
+pub parameter-size : (trustees1 trustees2 : ℕ) (x : Minima) → length (parameterBytes trustees1 trustees2 x) ≡ 8
 unfolding parameterBytes toBytes
 parameter-size trustees1 trustees2 x = refl
 

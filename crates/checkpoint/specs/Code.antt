@@ -14,24 +14,25 @@ use Rattle.state.specs.declared.Seat.{Seat}
 use Rattle.state.specs.declared.Proposal.{Proposal}
 use Rattle.state.specs.declared.Login.{Login}
 use Rattle.state.specs.Time.{cycle, isBeforeCycle}
-use Rattle.state.specs.Minima.{isInRange}
+use Rattle.state.specs.Minima.{isInForce}
 use Rattle.state.specs.Seats.{presentSeats, quorum}
 use Rattle.state.specs.Rows.{isProposal, isLogin}
 use Rattle.state.specs.WellFormed.{isTrusteeCount, isWellFormedSeat, cycleOf, isIntended, areWellFormedProposals, hasRights, areWellFormedLogins}
 use Rattle.checkpoint.specs.declared.Head.{Head}
 use Rattle.checkpoint.specs.Layout.{kindCheckpoint, checkpointLength, headAt}
-use Rattle.checkpoint.specs.Format.{Counted, headOf, seat, proposal, login}
+use Rattle.checkpoint.specs.Format.{Counted, headOf, countedOf, tables, seat, proposal, login}
 
 -- length 2, kind 2, cycle 4, day 4
 unfoldable pub timeBytes : Cycle → Day → List ℕ
 timeBytes c d = toBytes 2 checkpointLength ++ (toBytes 2 kindCheckpoint ++ (toBytes 4 (c .0) ++ toBytes 4 (d .0)))
 
--- trustee counts 1+1, m 1, k 1, S 2
+-- trustee counts 1+1, m 1, k 1, S 2, notices 1+1
 abbrev pub parametersAt : ℕ
 parametersAt = headAt + 8
 
 unfoldable pub parameterBytes : ℕ → ℕ → Minima → List ℕ
-parameterBytes trustees1 trustees2 x = trustees1 ∷ trustees2 ∷ x .margin ∷ x .least ∷ toBytes 2 (x .silence)
+parameterBytes trustees1 trustees2 x =
+    trustees1 ∷ trustees2 ∷ x .margin ∷ x .least ∷ (toBytes 2 (x .silence) ++ (x .notices .ordinary ∷ x .notices .restart ∷ []))
 
 -- the seats, and the other two tables after their counts
 unfoldable pub tableBytes : List Seat → List Proposal → List Login → List ℕ
@@ -40,11 +41,15 @@ tableBytes seats proposals logins =
     ++ ((count isProposal proposals ∷ [])
     ++ (encodeRows proposal proposals ++ ((count isLogin logins ∷ []) ++ encodeRows login logins)))
 
+-- the state and the two counts of these numbers and of the tables in b
+unfoldable pub inParts : Head → List ℕ → Counted
+inParts h b = countedOf h (tables .decode b)
+
 -- the numbers before the tables are well formed
 unfoldable pub isHead : Head → Bool
 isHead h =
     isBeforeCycle (cycle 0) (h .cycle)
-    && (isTrusteeCount (h .trustees1) && (isTrusteeCount (h .trustees2) && isInRange (h .minima)))
+    && (isTrusteeCount (h .trustees1) && (isTrusteeCount (h .trustees2) && isInForce (h .minima)))
 
 -- the seats are well formed, and the quorum of these minima is at most p
 unfoldable pub areSeats : Minima → List Seat → Bool

@@ -9,13 +9,16 @@ ghost use Rattle.state.specs.Limits.{seatCount, proposalRows, loginRows};
 ghost use Rattle.state.specs.Seats.{presentSeats};
 ghost use Rattle.state.specs.Rows.{isProposal, isLogin};
 ghost use Rattle.state.specs.WellFormed.{isWellFormedSeat, isBlankProposal, isBlankLogin};
-ghost use Rattle.checkpoint.specs.Layout.{checkpointSize, seatSize, proposalSize, loginSize};
-ghost use Rattle.checkpoint.specs.Format.{seat, proposal, login};
-ghost use Rattle.checkpoint.specs.Code.{isHead, areSeats, areProposals, areLogins, leadingProposals, leadingLogins, isBody};
-ghost use Rattle.checkpoint.specs.Checkpoint.{decodeCheckpoint, isCheckpoint};
+ghost use Rattle.checkpoint.specs.Layout.{tablesSize, seatSize, proposalSize, loginSize};
+ghost use Rattle.checkpoint.specs.Format.{current, earlier, seat, proposal, login};
+ghost use Rattle.checkpoint.specs.Code.{inParts, isHead, areSeats, areProposals, areLogins, leadingProposals, leadingLogins, isBody};
+ghost use Rattle.checkpoint.specs.Checkpoint.{isOf, isCheckpoint};
 use crate::Head;
 use crate::layout::CHECKPOINT;
 use crate::layout::CHECKPOINT_LENGTH;
+use crate::layout::EARLIER;
+use crate::layout::EARLIER_LENGTH;
+use crate::layout::EARLIER_TABLES_AT;
 use crate::layout::LOGIN_COUNT_AT;
 use crate::layout::LOGIN_SIZE;
 use crate::layout::LOGINS_AT;
@@ -23,9 +26,11 @@ use crate::layout::PROPOSAL_COUNT_AT;
 use crate::layout::PROPOSAL_SIZE;
 use crate::layout::PROPOSALS_AT;
 use crate::layout::SEAT_SIZE;
-use crate::layout::SEATS_AT;
+use crate::layout::TABLES_AT;
+use crate::read::EARLIER_NOTICES;
 use crate::read::head_in;
 use crate::read::login_at;
+use crate::read::notices_in;
 use crate::read::proposal_at;
 use crate::read::seat_at;
 use binary::is_record;
@@ -47,7 +52,7 @@ impl Head {
         let cycle = self.cycle;
         let minima = self.minima;
         let started = Cycle(0).is_before(cycle);
-        let ranges = minima.is_in_range();
+        let ranges = minima.is_in_force();
         started
             & (((1 <= self.trustees1) & (self.trustees1 <= MOST_TRUSTEES))
                 & (((1 <= self.trustees2) & (self.trustees2 <= MOST_TRUSTEES)) & ranges))
@@ -174,28 +179,46 @@ fn are_logins(count: u8, table: &[u8]) -> bool
     (size(count) == n) & are_zero_logins(table, n)
 }
 
-// The numbers and the tables of bytes that have a checkpoint's size.
-fn is_body(b: &[u8]) -> bool
-    requires { ⌜ length (now b) ≡ checkpointSize ⌝ }
-    ensures { λ r. ⌜ r ≡ isBody (decodeCheckpoint (now (b .entry))) ⌝ }
+// The numbers of a state, and the tables in the bytes behind them.
+fn is_body(head: Head, b: &[u8]) -> bool
+    requires { ⌜ tablesSize ≤ length (now b) ⌝ }
+    ensures { λ r. ⌜ r ≡ isBody (inParts head (now (b .entry))) ⌝ }
 {
-    let head = head_in(b);
     let cycle = head.cycle;
     let day = head.day;
     let minima = head.minima;
     let numbers = head.is_well_formed();
-    let seats = are_seats(minima, &b[SEATS_AT..]);
+    let seats = are_seats(minima, b);
     let proposals = are_proposals(b[PROPOSAL_COUNT_AT], &b[PROPOSALS_AT..], cycle, day);
     let logins = are_logins(b[LOGIN_COUNT_AT], &b[LOGINS_AT..]);
     numbers & (seats & (proposals & logins))
 }
 
-// The bytes are exactly one well-formed checkpoint.
+// The bytes are exactly one well-formed checkpoint of the kind that is written.
+pub fn is_current(b: &[u8]) -> bool
+    ensures { λ r. ⌜ r ≡ isOf current (now (b .entry)) ⌝ }
+{
+    if is_record(b, CHECKPOINT_LENGTH, CHECKPOINT) {
+        let head = head_in(b, notices_in(b));
+        return is_body(head, &b[TABLES_AT..]);
+    }
+    false
+}
+
+// The same for the earlier kind.
+fn is_earlier(b: &[u8]) -> bool
+    ensures { λ r. ⌜ r ≡ isOf earlier (now (b .entry)) ⌝ }
+{
+    if is_record(b, EARLIER_LENGTH, EARLIER) {
+        let head = head_in(b, EARLIER_NOTICES);
+        return is_body(head, &b[EARLIER_TABLES_AT..]);
+    }
+    false
+}
+
+// The bytes are exactly one well-formed checkpoint, of either kind.
 pub fn is_checkpoint(b: &[u8]) -> bool
     ensures { λ r. ⌜ r ≡ isCheckpoint (now (b .entry)) ⌝ }
 {
-    if is_record(b, CHECKPOINT_LENGTH, CHECKPOINT) {
-        return is_body(b);
-    }
-    false
+    is_current(b) | is_earlier(b)
 }

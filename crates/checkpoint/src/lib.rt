@@ -1,4 +1,4 @@
-// The checkpoint: a state as 1,108 bytes.
+// The checkpoint: a state as 1,110 bytes, and the earlier kind without notices, which is read.
 use state::Cycle;
 use state::Day;
 use state::Minima;
@@ -9,6 +9,8 @@ mod read;
 mod write;
 
 pub use check::is_checkpoint;
+pub use check::is_current;
+pub use read::current_state_in;
 pub use read::cycle_in;
 pub use read::standing_in;
 pub use read::state_in;

@@ -6,7 +6,7 @@ ghost use Rattle.binary.specs.Number.{overwrite};
 ghost use Rattle.binary.specs.Codec.{encodeRows};
 ghost use Rattle.binary.specs.Splice.{splice};
 ghost use Rattle.state.specs.Limits.{seatCount, proposalRows, loginRows};
-ghost use Rattle.checkpoint.specs.Layout.{checkpointSize, seatSize, proposalSize, loginSize, seatsAt};
+ghost use Rattle.checkpoint.specs.Layout.{checkpointSize, seatSize, proposalSize, loginSize, tablesAt};
 ghost use Rattle.checkpoint.specs.Format.{seat, proposal, login};
 ghost use Rattle.checkpoint.specs.Code.{timeBytes, parametersAt, parameterBytes, tableBytes};
 ghost use Rattle.checkpoint.specs.Checkpoint.{checkpointBytes};
@@ -16,11 +16,12 @@ use crate::layout::HEAD_AT;
 use crate::layout::LOGIN_COUNT_AT;
 use crate::layout::LOGIN_SIZE;
 use crate::layout::LOGINS_AT;
+use crate::layout::NOTICES_AT;
 use crate::layout::PROPOSAL_COUNT_AT;
 use crate::layout::PROPOSAL_SIZE;
 use crate::layout::PROPOSALS_AT;
 use crate::layout::SEAT_SIZE;
-use crate::layout::SEATS_AT;
+use crate::layout::TABLES_AT;
 use binary::put_u8;
 use binary::put_u16;
 use binary::put_u32;
@@ -109,7 +110,7 @@ fn put_time(out: &mut [u8], cycle: Cycle, day: Day)
     put_u32(out, HEAD_AT + 4, day.0);
 }
 
-// The numbers of trustees, the margin, the least quorum and the silence limit.
+// The numbers of trustees, the margin, the least quorum, the silence limit and the notices.
 fn put_parameters(out: &mut [u8], trustees1: u8, trustees2: u8, x: Minima)
     requires { ⌜ checkpointSize ≤ length (now out) ⌝ }
     ensures { λ _. ⌜ now (out .exit) ≡ splice (now (out .entry)) parametersAt (parameterBytes trustees1 trustees2 x) ⌝ }
@@ -119,6 +120,8 @@ fn put_parameters(out: &mut [u8], trustees1: u8, trustees2: u8, x: Minima)
     put_u8(out, HEAD_AT + 10, x.margin);
     put_u8(out, HEAD_AT + 11, x.least);
     put_u16(out, HEAD_AT + 12, x.silence);
+    put_u8(out, NOTICES_AT, x.notices.ordinary);
+    put_u8(out, NOTICES_AT + 1, x.notices.restart);
 }
 
 // The seats, the proposals and the logins, the latter two after their counts.
@@ -129,13 +132,17 @@ fn put_tables(
     logins: [Login; LOGIN_ROWS],
 )
     requires { ⌜ checkpointSize ≤ length (now out) ⌝ }
-    ensures { λ _. ⌜ now (out .exit) ≡ splice (now (out .entry)) seatsAt (tableBytes seats proposals logins) ⌝ }
+    ensures { λ _. ⌜ now (out .exit) ≡ splice (now (out .entry)) tablesAt (tableBytes seats proposals logins) ⌝ }
 {
-    put_seats(out, SEATS_AT, seats);
-    put_u8(out, PROPOSAL_COUNT_AT, count_proposals(proposals));
-    put_proposals(out, PROPOSALS_AT, proposals);
-    put_u8(out, LOGIN_COUNT_AT, count_logins(logins));
-    put_logins(out, LOGINS_AT, logins);
+    put_seats(out, TABLES_AT, seats);
+    put_u8(
+        out,
+        TABLES_AT + PROPOSAL_COUNT_AT,
+        count_proposals(proposals),
+    );
+    put_proposals(out, TABLES_AT + PROPOSALS_AT, proposals);
+    put_u8(out, TABLES_AT + LOGIN_COUNT_AT, count_logins(logins));
+    put_logins(out, TABLES_AT + LOGINS_AT, logins);
 }
 
 // Writes a state's checkpoint to the front of a slice.

@@ -7,7 +7,7 @@ use Rattle.binary.specs.Codec.{encodeRows, decodeRows}
 use Rattle.decimal.specs.Decimal.{digits, padded}
 use Rattle.calendar.specs.Calendar.{monthDays, nextDate, dateOf}
 use Rattle.calendar.specs.Text.{dayText}
-use Rattle.state.specs.Minima.{isInRange}
+use Rattle.state.specs.Minima.{isInRange, isInForce}
 use Rattle.state.specs.Seats.{presentSeats, quorum, quorumOf}
 use Rattle.state.specs.Trustees.{onesBelow, isMajority}
 use Rattle.state.specs.Subjects.{isSeatAndLife, isCertify, isMinima, isRemove, isSubject}
@@ -20,7 +20,7 @@ use Rattle.records.specs.Announcement.{announcing, readPropose, readCancel, rea
 use Rattle.records.specs.Announcement.{readGrant, readEnd, readKind, readAnnouncement, announcementBytes}
 use Rattle.records.specs.Sheet.{rowsOf, isSheet, counts, countedSeats, sheetOf}
 use Rattle.records.specs.StartQuery.{readStart, readQuery}
-use Rattle.checkpoint.specs.Checkpoint.{checkpointBytes, decodeCheckpoint, isCheckpoint, readCheckpoint}
+use Rattle.checkpoint.specs.Checkpoint.{checkpointBytes, decodeAs, isOf, isCheckpoint, readCheckpoint}
 use Rattle.rules.specs.Rules.{timeRefusal, noticeRefusal, quorumRefusal, presentWithout, checkRefusal, actionRefusal}
 use Rattle.actions.specs.Perform.{withStanding, withLife, effect, useProposal, act, advance, perform}
 use Rattle.verdicts.specs.Attempts.{areInRange}
@@ -34,12 +34,12 @@ use Rattle.node.specs.Page.{pageOf, pageSlice}
 unfoldable pub calls-by-value : Unit {0}
 unfolding any all count countFrom first risingFrom keep fill replaceFirst lowest toBytes fromBytes isZeroFrom overwrite encodeRows decodeRows
     digits padded monthDays nextDate dateOf dayText places linesOf pageText
-    isInRange presentSeats quorum quorumOf onesBelow isMajority isSeatAndLife isCertify isMinima isRemove isSubject
+    isInRange isInForce presentSeats quorum quorumOf onesBelow isMajority isSeatAndLife isCertify isMinima isRemove isSubject
     areWellFormedProposals areWellFormedLogins isWellFormed blankState
     addProposal hasProposal dropProposal dropLapsed matureProposal findLogin isListed insertLogin grantLogin endLogin
     announcing readPropose readCancel readPresents readCertify readMinima readRemove readRejoin readGrant readEnd readKind readAnnouncement
     announcementBytes rowsOf isSheet counts countedSeats sheetOf readStart readQuery
-    checkpointBytes decodeCheckpoint isCheckpoint readCheckpoint
+    checkpointBytes decodeAs isOf isCheckpoint readCheckpoint
     timeRefusal noticeRefusal quorumRefusal presentWithout checkRefusal actionRefusal
     withStanding withLife effect useProposal act advance perform isSameBytes
     areInRange deliverRefusal showsQuorum voteRefusal loginRefusal queryRefusal startRefusal

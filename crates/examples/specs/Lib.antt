@@ -4,6 +4,7 @@ pub mod Examples
 pub mod TableOfNo
 pub mod Lapse
 pub mod Restarts
+pub mod Notices
 pub mod Doors
 pub mod AccessPage
 pub mod Roster

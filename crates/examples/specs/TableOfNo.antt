@@ -142,8 +142,8 @@ pub record TableOfNo : Type 0 where
   pub ended : queryOf granted (query 501 121 0) .answer ≡ Query.Refused 20
   -- 21 "right not held": "right 1 of rights 1"
   pub right-not-held : queryOf granted (query 501 101 1) .answer ≡ Query.Refused 21
-  -- 22 "output slice shorter than 1,108 (checkpoint)": "1,107 bytes"
-  pub slice-too-short : checkpointOf (started firstState) (replicate 1107 0) .answer ≡ Checkpoint.Refused 22
+  -- 22 "output slice shorter than 1,108 (checkpoint)": "1,107 bytes"; since A7 1,110 and 1,109
+  pub slice-too-short : checkpointOf (started firstState) (replicate 1109 0) .answer ≡ Checkpoint.Refused 22
   -- 23 "slice shorter than 47 bytes times the logins": 46 bytes for one login, 3,007 for 64
   pub page-too-long : pageOf granted (replicate 46 0) .answer ≡ Page.Refused 23
   pub full-page-too-long : pageOf (started fullLogins) (replicate 3007 0) .answer ≡ Page.Refused 23

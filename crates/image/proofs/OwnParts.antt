@@ -14,7 +14,8 @@ use Rattle.state.specs.Limits.{seatCount}
 use Rattle.state.specs.Seats.{seatAt}
 use Rattle.records.specs.Layout.{announcementSize}
 use Rattle.checkpoint.specs.Layout.{checkpointSize}
-use Rattle.checkpoint.specs.Checkpoint.{decodeCheckpoint, isCheckpoint}
+use Rattle.checkpoint.specs.Format.{current}
+use Rattle.checkpoint.specs.Checkpoint.{decodeAs, isOf}
 use Rattle.verdicts.specs.declared.Own.{Own}
 use Rattle.verdicts.specs.Attempts.{areInRange}
 use Rattle.node.specs.WellFormed.{ownFields, ownOf, countsOf, isWellFormedVote, isWellFormedOwn}
@@ -61,18 +62,18 @@ bytes-written (x ∷ xs) = ap (λ (l : List ℕ). x ∷ l) (bytes-written xs)
 
 -- What the tests of an own part come to, where its seat's standing and its vote are tested.
 pub own-tested : (b : List ℕ) (standing : ℕ) (voted : Bool) → length b ≡ imageSize
-    → standing ≡ seatAt (byteAt ownAt b) (decodeCheckpoint (take checkpointSize b) .state .seats) .standing
-    → voted ≡ isWellFormedVote (decodeCheckpoint (take checkpointSize b) .state .cycle) (eqb (byteAt flagAt b) 1)
+    → standing ≡ seatAt (byteAt ownAt b) (decodeAs current (take checkpointSize b) .state .seats) .standing
+    → voted ≡ isWellFormedVote (decodeAs current (take checkpointSize b) .state .cycle) (eqb (byteAt flagAt b) 1)
     (take announcementSize (drop voteAt b))
     → isWellFormedOwn (decodeImage b .state) (decodeImage b .own)
     ≡ (ltb (byteAt ownAt b) seatCount && (not (eqb standing 0) && (leb 1 (field 4 lifeAt b) && voted)))
 unfolding decodeImage isWellFormedOwn
 own-tested b standing voted l e f =
     let v = bytes-are announcementSize (drop voteAt b) (rw length-drop (omega arith)) in
-    ap (isWellFormedOwn (decodeCheckpoint (take checkpointSize b) .state)) (own-at b) ∙ rw (v, ← e, ← f)
+    ap (isWellFormedOwn (decodeAs current (take checkpointSize b) .state)) (own-at b) ∙ rw (v, ← e, ← f)
 
 -- What the tests of an image come to, where its state is accepted, and its own part and its counts are tested.
-pub image-tested : (b : List ℕ) (own counts : Bool) → length b ≡ imageSize → isCheckpoint (take checkpointSize b) ≡ true
+pub image-tested : (b : List ℕ) (own counts : Bool) → length b ≡ imageSize → isOf current (take checkpointSize b) ≡ true
     → own ≡ isWellFormedOwn (decodeImage b .state) (decodeImage b .own) → counts ≡ areInRange (decodeImage b .counts)
     → isImage b ≡ (leb (byteAt flagAt b) 1 && (own && counts))
 unfolding isImage

@@ -14,7 +14,8 @@ use Rattle.binary.proofs.Codec.{Laws, byte-laws, number-laws, onto-laws, rows-l
 use Rattle.state.specs.WellFormed.{isWellFormed}
 use Rattle.records.specs.Layout.{announcementSize, doorCount}
 use Rattle.checkpoint.specs.Layout.{checkpointSize}
-use Rattle.checkpoint.specs.Checkpoint.{checkpointBytes, decodeCheckpoint}
+use Rattle.checkpoint.specs.Format.{current}
+use Rattle.checkpoint.specs.Checkpoint.{checkpointBytes, decodeAs}
 use Rattle.checkpoint.specs.Claims.{ReadState}
 use Rattle.checkpoint.proofs.RoundTrips.{checkpoint-length, checkpoint-decoded, checkpoint-accepted, decoded-state}
 use Rattle.verdicts.specs.Attempts.{areInRange}
@@ -66,7 +67,7 @@ module _ (n : Node) (h : Fits n) where
   image-decoded : decodeImage (imageBytes n) ≡ n
   unfolding decodeImage
   image-decoded =
-      let s = ap decodeCheckpoint state-part ∙ checkpoint-decoded (n .state) (h .0) in
+      let s = ap (decodeAs current) state-part ∙ checkpoint-decoded (n .state) (h .0) in
       let o : ownOf (ownFields .decode (drop ownAt (imageBytes n))) ≡ n .own = ap ownOf own-decoded ∙ rw flag-back in
       let c = ap countsOf own-decoded in
       λ i. record { state = s i .state; own = o i; counts = c i }

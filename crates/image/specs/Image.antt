@@ -1,11 +1,13 @@
--- "Image for C, 1,139 bytes: checkpoint;" and the own part, and 3 bytes more: "the counts of doors 1 to 3".
+-- "Image for C, 1,139 bytes: checkpoint;" and the own part, and 3 bytes more: "the counts of doors 1 to 3". Its checkpoint is of
+-- the kind that is written.
 use Prim.Native.Nat.{ℕ}
 use mathlib.Core.List.{List, _++_}
 use mathlib.Core.Bool.{Bool, true, false, cond, _&&_}
 use lib.Dec.{eqb, leb}
 use lib.ListN.{length, take, drop}
 use Rattle.checkpoint.specs.Layout.{checkpointSize}
-use Rattle.checkpoint.specs.Checkpoint.{checkpointBytes, decodeCheckpoint, isCheckpoint}
+use Rattle.checkpoint.specs.Format.{current}
+use Rattle.checkpoint.specs.Checkpoint.{checkpointBytes, decodeAs, isOf}
 use Rattle.verdicts.specs.declared.Own.{Own}
 use Rattle.verdicts.specs.declared.AttemptCounts.{AttemptCounts}
 use Rattle.verdicts.specs.Attempts.{areInRange}
@@ -24,7 +26,7 @@ imageBytes n = withOwn (checkpointBytes (n .state)) (n .own) (n .counts)
 -- the node in an image's bytes
 unfoldable pub decodeImage : List ℕ → Node
 decodeImage b = record {
-  state = decodeCheckpoint (take checkpointSize b) .state;
+  state = decodeAs current (take checkpointSize b) .state;
   own = ownOf (ownFields .decode (drop ownAt b));
   counts = countsOf (ownFields .decode (drop ownAt b));
 }
@@ -34,7 +36,7 @@ unfoldable pub isImage : List ℕ → Bool
 isImage b =
     let n = decodeImage b in
     eqb (length b) imageSize
-    && (isCheckpoint (take checkpointSize b)
+    && (isOf current (take checkpointSize b)
     && (leb (ownFields .decode (drop ownAt b) .flag) 1 && (isWellFormedOwn (n .state) (n .own) && areInRange (n .counts))))
 
 -- what reading an image gives: the node, or the blank one where the bytes are not a well-formed image

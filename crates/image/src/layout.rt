@@ -2,7 +2,7 @@
 use checkpoint::layout::CHECKPOINT_SIZE;
 use records::layout::ANNOUNCEMENT_SIZE;
 
-pub const IMAGE_SIZE: usize = 1142;
+pub const IMAGE_SIZE: usize = 1144;
 
 pub const OWN_AT: usize = CHECKPOINT_SIZE;
 

@@ -1,4 +1,4 @@
-// The image: a node as 1,142 bytes, which the firmware keeps from one call to the next.
+// The image: a node as 1,144 bytes, which the firmware keeps from one call to the next.
 pub mod layout;
 mod read;
 mod write;

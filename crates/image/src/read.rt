@@ -15,11 +15,11 @@ use crate::layout::OWN_AT;
 use crate::layout::VOTE_AT;
 use binary::is_zero_from;
 use binary::u32_at;
+use checkpoint::current_state_in;
 use checkpoint::cycle_in;
-use checkpoint::is_checkpoint;
+use checkpoint::is_current;
 use checkpoint::layout::CHECKPOINT_SIZE;
 use checkpoint::standing_in;
-use checkpoint::state_in;
 use node::Node;
 use records::AnnouncementRead;
 use records::layout::ANNOUNCEMENT_SIZE;
@@ -105,7 +105,7 @@ pub fn is_image(b: &[u8]) -> bool
     if b.len() != IMAGE_SIZE {
         return false;
     }
-    if is_checkpoint(&b[0..CHECKPOINT_SIZE]) {
+    if is_current(&b[0..CHECKPOINT_SIZE]) {
         let own = is_well_formed_own(b);
         let counts = counts_in(b);
         return (b[FLAG_AT] <= 1) & (own & are_in_range(counts));
@@ -118,7 +118,7 @@ pub fn node_in(b: &[u8]) -> Node
     requires { ⌜ imageSize ≤ length (now b) ⌝ }
     ensures { λ r. ⌜ r ≡ decodeImage (now (b .entry)) ⌝ }
 {
-    let state = state_in(&b[0..CHECKPOINT_SIZE]);
+    let state = current_state_in(&b[0..CHECKPOINT_SIZE]);
     let own = own_in(b);
     let counts = counts_in(b);
     Node { state, own, counts }

@@ -44,7 +44,7 @@ abbrev pub unsigned : Node → List ℕ → Announcement → Bool
 unsigned n sb a = not (isSigned (n .state) (levelOf (kindOf (a .action))) (level1 sb) (level2 sb))
 
 abbrev pub unnoticed : Node → Announcement → ℕ
-unnoticed n a = noticeRefusal (seen n a .proposals) (a .day) (subjectOf (a .action))
+unnoticed n a = noticeRefusal (seen n a) (a .day) (subjectOf (a .action))
 
 module _ {n : Node} {ab sb : List ℕ} {a : Announcement} {k : ℕ} (ra : readAnnouncement ab ≡ Read a) (low : 1 ≤ k) where
   time-applies : timeRefusal (n .state .cycle) (n .state .day) a ≡ k → Applies (at n (deliver ab sb)) k
@@ -110,8 +110,8 @@ module _ {n : Node} {ab sb : List ℕ} {a : Announcement} {k : ℕ} (ra : readAn
     where
       by : (unnoticed n a ≡ k) ⊎ (checkRefusal (seen n a) (a .day) (a .action) ≡ k) → Applies (at n (deliver ab sb)) k
       by (inl e) =
-          let r = refused (lacksNotice (seen n a .proposals) (a .day) (subjectOf (a .action))) 10 k low e in
-          let u = notice-lacks (n .state .proposals) (a .day) (subjectOf (a .action)) (r .1) in
+          let r = refused (lacksNotice (seen n a) (a .day) (subjectOf (a .action))) 10 k low e in
+          let u = notice-lacks (n .state) (a .day) (subjectOf (a .action)) (r .1) in
           rw (r .0) (no-10 ra (u .0) (u .1))
       by (inr e) = check-applies (a .action) refl e
 

@@ -215,7 +215,7 @@ deliver-up-to {n} {ab} {sb} t (no-9 (rejoin {i = i} ra ax c p)) =
     let e = inactive (seatAt i (n .state .seats)) c p in
     by-check n ab sb ra ax (omega arith) (search reaches depth 12)
 deliver-up-to {n} {ab} {sb} t (no-10 {a = a} ra k h) =
-    let e = lacks-notice (n .state .proposals) (a .day) (subjectOf (a .action)) k h in
+    let e = lacks-notice (n .state) (a .day) (subjectOf (a .action)) k h in
     by-rules n ab sb ra (omega arith) (λ _. in-notice n sb a (omega arith) (by-itself _ 10 e (omega arith) (omega arith)))
 deliver-up-to {n} {ab} {sb} t (no-11 (propose ra ax h)) =
     by-check n ab sb ra ax (omega arith) (search reaches depth 12)

@@ -12,17 +12,13 @@ use Rattle.records.specs.declared.Start.{Start}
 use Rattle.records.specs.declared.StartRead.{StartRead}
 use Rattle.records.specs.declared.StartRead.the-variants.{Read, Malformed}
 use Rattle.records.specs.StartQuery.{readStart}
-use Rattle.checkpoint.specs.Checkpoint.{CheckpointRead, isCheckpoint, readCheckpoint}
+use Rattle.checkpoint.specs.Checkpoint.{isCheckpoint, readCheckpoint}
+use Rattle.checkpoint.proofs.Fields.{read-ok}
 use Rattle.refusals.proofs.Chains.{passes-rule, unrefused, by-rule, refused, not-zero}
 use Rattle.verdicts.specs.Verdicts.{startRefusal}
 use Rattle.node.specs.Start.{startRead, startRecords, startOf}
 use Rattle.node.specs.Claims.{StartRefused, start-malformed, checkpoint-malformed, seat-unfit, life-below, Starting, refuses, starts}
 use Rattle.node.specs.Claims.{StartComesTo}
-
--- a checkpoint is read where it is accepted
-pub read-ok : (cb : List ℕ) → readCheckpoint cb .ok ≡ isCheckpoint cb
-unfolding readCheckpoint
-read-ok cb = cond-cases (λ (c : CheckpointRead). c .ok ≡ isCheckpoint cb) (isCheckpoint cb) (λ e. rw e) (λ e. rw e)
 
 module _ (cb sb : List ℕ) (x : Start) (rx : readStart sb ≡ Read x) where
   seat : Seat

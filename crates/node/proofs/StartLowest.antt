@@ -10,11 +10,10 @@ use borrow.Author.Tests.{eqb-true, eqb-false, lt-ltb}
 use Rattle.lists.specs.Fold.{all}
 use Rattle.lists.proofs.Tests.{cond-cases, or-false-of}
 use Rattle.lists.proofs.Every.{all-of, all-getD}
-use Rattle.binary.specs.Number.{isRecord}
 use Rattle.state.specs.declared.Seat.{Seat}
 use Rattle.state.specs.declared.State.{State}
 use Rattle.state.specs.Time.{cycle, isBeforeCycle}
-use Rattle.state.specs.Minima.{isInRange}
+use Rattle.state.specs.Minima.{isInForce}
 use Rattle.state.specs.Seats.{free, certified, present, retired, seatAt, isActive}
 use Rattle.state.specs.WellFormed.{isTrusteeCount, isWellFormedSeat, isWellFormed}
 use Rattle.state.proofs.SeatLaws.{well-formed-held}
@@ -22,9 +21,8 @@ use Rattle.records.specs.declared.Start.{Start}
 use Rattle.records.specs.declared.StartRead.{StartRead}
 use Rattle.records.specs.declared.StartRead.the-variants.{Read, Malformed}
 use Rattle.records.specs.StartQuery.{readStart}
-use Rattle.checkpoint.specs.Checkpoint.{isCheckpoint, readCheckpoint, decodeCheckpoint}
-use Rattle.checkpoint.specs.Format.{counted}
-use Rattle.checkpoint.specs.Layout.{kindCheckpoint, checkpointLength}
+use Rattle.checkpoint.specs.Checkpoint.{isCheckpoint, readCheckpoint}
+use Rattle.checkpoint.proofs.Fields.{read-ok, read-well-formed}
 use Rattle.verdicts.specs.Verdicts.{startRefusal}
 use Rattle.node.specs.declared.StartReply.{StartReply}
 use Rattle.node.specs.Answers.{startNumber}
@@ -32,7 +30,6 @@ use Rattle.node.specs.Start.{startRead, startOf}
 use Rattle.node.specs.Claims.{StartRefused, start-malformed, checkpoint-malformed, seat-unfit, life-below}
 use Rattle.node.specs.Applies as Table
 use Rattle.node.specs.Applies.{numberGiven, Tries, Starts, of-checkpoint, of-start, starting, Applies, no-1, no-9, no-14}
-use Rattle.node.proofs.Start.{read-ok}
 use Rattle.refusals.proofs.UpTo.{UpTo, reaches}
 
 -- ---- a number that is given applies
@@ -55,17 +52,12 @@ state-seat : (s : State) (i : ℕ) → isWellFormed s ≡ true → isWellFormedS
 unfolding isWellFormed
 state-seat s i w =
     let e1 = and-eq-true-iff (isBeforeCycle (cycle 0) (s .cycle)) _ .0 w in
-    let e2 = and-eq-true-iff (isTrusteeCount (s .trustees1) && (isTrusteeCount (s .trustees2) && isInRange (s .minima))) _ .0 (e1 .1) in
+    let e2 = and-eq-true-iff (isTrusteeCount (s .trustees1) && (isTrusteeCount (s .trustees2) && isInForce (s .minima))) _ .0 (e1 .1) in
     let e3 = and-eq-true-iff (all isWellFormedSeat (s .seats)) _ .0 (e2 .1) in
     all-getD i (all-of isWellFormedSeat (s .seats) (e3 .0)) refl
 
 checkpoint-seat : (cb : List ℕ) (i : ℕ) → isCheckpoint cb ≡ true → isWellFormedSeat (seatAt i (readCheckpoint cb .state .seats)) ≡ true
-unfolding readCheckpoint isCheckpoint
-checkpoint-seat cb i e =
-    let e1 = and-eq-true-iff (isRecord checkpointLength kindCheckpoint cb) _ .0 e in
-    let c = decodeCheckpoint cb in
-    let e2 = and-eq-true-iff (eqb (c .proposals) (counted (c .state) .proposals) && eqb (c .logins) (counted (c .state) .logins)) _ .0 (e1 .1) in
-    rw e (state-seat (c .state) i (e2 .1))
+checkpoint-seat cb i e = state-seat (readCheckpoint cb .state) i (read-well-formed cb e)
 
 pub start-applies : {cb sb : List ℕ} {k : ℕ} → StartRefused cb sb k → Tries (Table.start cb sb) k × Applies (Table.start cb sb) k
 start-applies (start-malformed e r) = (inl e, rw e (no-1 (of-start r)))

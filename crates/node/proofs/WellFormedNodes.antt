@@ -25,7 +25,7 @@ use Rattle.records.specs.Announcement.{readAnnouncement}
 use Rattle.records.specs.Sheet.{level1, level2}
 use Rattle.records.proofs.Ranges.{announcements-in-range, starts-in-range}
 use Rattle.checkpoint.specs.Checkpoint.{readCheckpoint}
-use Rattle.checkpoint.proofs.RoundTrips.{checkpoint-written-back}
+use Rattle.checkpoint.proofs.Earlier.{accepted-state}
 use Rattle.actions.specs.Perform.{perform}
 use Rattle.actions.specs.Claims as Actions
 use Rattle.actions.proofs.Sound.{sound-of, seat-good}
@@ -170,8 +170,8 @@ by-starting : (cb sb : List ℕ) (r : StartReply) → Starting cb sb r → Bytes
 by-starting cb sb r (Comes.refuses k y e) hc hs a = let q : Refused k ≡ Started = sym (ap (λ (x : StartReply). x .answer) e) ∙ a in clash (cc)
 by-starting cb sb r (Comes.starts x rx rc active above e) hc hs a =
     let s = readCheckpoint cb .state in
-    let b = checkpoint-written-back cb hc rc in
-    let w : Actions.WellFormed s = record { fits = b .fits; well-formed = b .well-formed } in
+    let b = accepted-state cb hc rc in
+    let w : Actions.WellFormed s = record { fits = b .0; well-formed = b .1 } in
     let i = starts-in-range sb x hs rx in
     let p = active-seat s (x .seat) w active in
     rw e (afresh s (x .seat) (x .life) w (i .0) (p .0) (omega arith) (i .1))

@@ -175,10 +175,10 @@ pub data Applies : Asked → ℕ → Type 0 where
       → isSigned (n .state) (levelOf (kindOf (a .action))) (level1 sb) (level2 sb) ≡ false → Applies (at n (deliver ab sb)) 8
   -- 9 "seat's standing unfit (kinds 3, 4, 6, 7; start: free or retired)"
   no-9 : {x : Asked} → Unfit x → Applies x 9
-  -- 10 "no ripe proposal", for the kinds that have a subject: 4, 5 and 6, none "from 7 to 60 days"; "Rule 10 now covers kind 7", none "from 2 to
-  -- 60 days"
+  -- 10 "no ripe proposal", for the kinds that have a subject: none is a notice by "the notices in force before the action"
   no-10 : {n : Node} {ab sb : List ℕ} {a : Announcement} → Announces ab a → subjectOf (a .action) .kind ≢ 0
-      → ((r : Proposal) → List·Memᴰ r (n .state .proposals) → ¬ IsNotice (subjectOf (a .action)) (a .day) r) → Applies (at n (deliver ab sb)) 10
+      → ((r : Proposal) → List·Memᴰ r (n .state .proposals) → ¬ IsNotice (n .state .minima .notices) (subjectOf (a .action)) (a .day) r)
+      → Applies (at n (deliver ab sb)) 10
   -- 11 "table full and the row is needed"
   no-11 : {x : Asked} → Full x → Applies x 11
   -- 12 "kind 3, 5 or 6 would leave quorum above p"
@@ -208,7 +208,8 @@ pub data Applies : Asked → ℕ → Type 0 where
   -- 21 "right not held"
   no-21 : {n : Node} {qb : List ℕ} {q : Query} → Queries qb q → isListed (q .login) (n .state .logins) ≡ true
       → holdsRight (q .right) (findLogin (q .login) (n .state .logins)) ≡ false → Applies (at n (query qb)) 21
-  -- 22 "output slice shorter than 1,108 (checkpoint) or 1,139 (image); longer ones keep their tail": by value only the checkpoint is written
+  -- 22 "output slice shorter than 1,108 (checkpoint) or 1,139 (image); longer ones keep their tail", 1,110 and 1,144 since A7: by value only the
+  -- checkpoint is written
   no-22 : {n : Node} {out : List ℕ} → length out < checkpointSize → Applies (at n (checkpoint out)) 22
   -- 23 "slice shorter than 47 bytes times the logins"
   no-23 : {n : Node} {given : Day} {out : List ℕ} → length out < lineSize * lineCount (n .state) → Applies (at n (page given out)) 23

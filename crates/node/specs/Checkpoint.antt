@@ -1,4 +1,5 @@
--- "A halted node still gives its checkpoint." 22 "output slice shorter than 1,108 (checkpoint) ...; longer ones keep their tail"
+-- "A halted node still gives its checkpoint." 22 "output slice shorter than 1,108 (checkpoint) ...; longer ones keep their tail",
+-- 1,110 since "rule 22's sizes follow" (02, A7)
 use Prim.Native.Nat.{ℕ}
 use mathlib.Core.List.{List}
 use mathlib.Core.Bool.{cond}

@@ -120,7 +120,7 @@ fn hand_on(state: &[u8], own: Own, counts: AttemptCounts, k: u32, out: &mut [u8]
     number
 }
 
-// For C, what a delivery handed back that performed: the image is of the whole node, which comes in its parts, so that none is copied.
+// For C, what a call handed back that started or performed: the image is of the whole node, which comes in its parts, so that none is copied.
 fn hand_out(state: State, own: Own, counts: AttemptCounts, out: &mut [u8]) -> u32
     ensures { λ r. ⌜ r ≡ return (record { node = record { state = state; own = own; counts = counts }; number = 0 }) (now (out .entry)) .number ⌝ }
     ensures { λ r. ⌜ now (out .exit) ≡ return (record { node = record { state = state; own = own; counts = counts }; number = 0 }) (now (out .entry)) .slice ⌝ }
@@ -140,7 +140,13 @@ pub extern "C" fn node_start(checkpoint: &[u8], start: &[u8], out: &mut [u8]) ->
     let r = Node::start(checkpoint, start);
     let node = r.node;
     let answer = r.answer;
-    hand_on(checkpoint, node.own, node.counts, start_number(answer), out)
+    let number = start_number(answer);
+    if number == 0 {
+        let state = node.state;
+        let own = node.own;
+        return hand_out(state, own, node.counts, out);
+    }
+    try_room(IMAGE_SIZE <= out.len(), number)
 }
 
 #[no_mangle]

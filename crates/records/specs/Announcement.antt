@@ -47,8 +47,13 @@ readCertify b =
 
 unfoldable pub readMinima : List ℕ → AnnouncementRead
 readMinima b =
-    let x : M.Minima = record { margin = byteAt 12 b; least = byteAt 13 b; silence = field 2 14 b } in
-    announcing b (isZeroFrom 16 b && isInRange x) (Minima x)
+    let x : M.Minima = record {
+      margin = byteAt 12 b;
+      least = byteAt 13 b;
+      silence = field 2 14 b;
+      notices = record { ordinary = byteAt 16 b; restart = byteAt 17 b };
+    } in
+    announcing b (isZeroFrom 18 b && isInRange x) (Minima x)
 
 unfoldable pub readRemove : List ℕ → AnnouncementRead
 readRemove b =
@@ -94,7 +99,7 @@ argumentBytes (Propose x) = toBytes 2 (x .kind) ++ toBytes 8 (x .arguments)
 argumentBytes (Cancel c) = toBytes 4 (c .0)
 argumentBytes (Presents i flag) = i ∷ cond flag 1 0 ∷ []
 argumentBytes (Certify i life) = i ∷ toBytes 4 life
-argumentBytes (Minima x) = x .margin ∷ x .least ∷ toBytes 2 (x .silence)
+argumentBytes (Minima x) = x .margin ∷ x .least ∷ (toBytes 2 (x .silence) ++ (x .notices .ordinary ∷ x .notices .restart ∷ []))
 argumentBytes (Remove i) = i ∷ []
 argumentBytes (Rejoin i life) = i ∷ toBytes 4 life
 argumentBytes (Grant x) = toBytes 4 (x .login) ++ (toBytes 4 (x .end .0) ++ toBytes 2 (x .rights))

@@ -12,6 +12,7 @@ use state::Cycle;
 use state::Day;
 use state::Login;
 use state::Minima;
+use state::Notices;
 use state::Subject;
 use state::kinds::CANCEL;
 use state::kinds::CERTIFY;
@@ -101,8 +102,12 @@ fn read_minima(b: &[u8]) -> AnnouncementRead
         margin: b[12],
         least: b[13],
         silence: u16_at(b, 14),
+        notices: Notices {
+            ordinary: b[16],
+            restart: b[17],
+        },
     };
-    let ok = is_zero_from(16, b) & minima.is_in_range();
+    let ok = is_zero_from(18, b) & minima.is_in_range();
     announcing(b, ok, Action::Minima { minima })
 }
 

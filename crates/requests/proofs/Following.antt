@@ -9,14 +9,13 @@ use lib.ListN.{length, drop, length-append, length-drop}
 use lib.Seq.{take-append-le, drop-append-le}
 use borrow.Author.Tests.{le-leb}
 use Rattle.binary.specs.Number.{fromBytes, field}
-use Rattle.records.specs.Layout.{kindSheet, kindStart}
-use Rattle.checkpoint.specs.Layout.{kindCheckpoint}
+use Rattle.records.specs.Layout.{kindStart}
 use Rattle.node.specs.declared.Node.{Node}
 use Rattle.lists.proofs.Tests.{cond-cases}
 use Rattle.requests.specs.declared.Frame.{Frame}
 use Rattle.requests.specs.declared.Frame.the-variants.{Record, Cut}
 use Rattle.requests.specs.declared.Step.{Step}
-use Rattle.requests.specs.Framing.{recordHead, sizeOf, kindOf, isAnnouncement, isQuery, leastSize, hasSecond}
+use Rattle.requests.specs.Framing.{recordHead, sizeOf, kindOf, isAnnouncement, isQuery, isCheckpointKind, isSheetKind, leastSize, hasSecond}
 use Rattle.requests.specs.Framing.{holdsRecord, frameOf, holdsRequest}
 use Rattle.requests.specs.Requests.{isNone, cuts, withSecond, stepStart, stepDeliver, stepQuery, placed, stepOf}
 use Rattle.requests.specs.Claims.{MoreInput}
@@ -53,22 +52,22 @@ module _ (c : List ℕ) where
       let k = record-heads b h in
       rw (holds-front b h, h, size-front b h, field-front 2 2 b (omega arith)) refl
 
-  second-front : (n : Node) (kind : ℕ) (f : ℕ → List ℕ → Step) (b : List ℕ) → holdsRecord b ≡ true
-      → withSecond n kind f (b ++ c) (frameOf (b ++ c)) ≡ withSecond n kind f b (frameOf b)
-  second-front n kind f b h = rw (frame-front b h) (go (frameOf b) refl)
+  second-front : (n : Node) (fits : ℕ → Bool) (f : ℕ → List ℕ → Step) (b : List ℕ) → holdsRecord b ≡ true
+      → withSecond n fits f (b ++ c) (frameOf (b ++ c)) ≡ withSecond n fits f b (frameOf b)
+  second-front n fits f b h = rw (frame-front b h) (go (frameOf b) refl)
     where
-      go : (x : Frame) → frameOf b ≡ x → withSecond n kind f (b ++ c) x ≡ withSecond n kind f b x
+      go : (x : Frame) → frameOf b ≡ x → withSecond n fits f (b ++ c) x ≡ withSecond n fits f b x
       go Cut e = refl
-      go (Record size k) e = ap (λ (v : List ℕ). cond (eqb k kind) (f size v) (cuts n)) (take-append-le size b c (frame-fits b size k e))
+      go (Record size k) e = ap (λ (v : List ℕ). cond (fits k) (f size v) (cuts n)) (take-append-le size b c (frame-fits b size k e))
 
   module _ (n : Node) (b : List ℕ) (size : ℕ) (fits : size ≤ length b) where
     start-front : holdsRecord (drop size b) ≡ true → stepStart n size (b ++ c) ≡ stepStart n size b
     unfolding stepStart
-    start-front h = rw (take-append-le size b c fits, drop-append-le size b c fits) (second-front n kindCheckpoint _ (drop size b) h)
+    start-front h = rw (take-append-le size b c fits, drop-append-le size b c fits) (second-front n isCheckpointKind _ (drop size b) h)
 
     deliver-front : holdsRecord (drop size b) ≡ true → stepDeliver n size (b ++ c) ≡ stepDeliver n size b
     unfolding stepDeliver
-    deliver-front h = rw (take-append-le size b c fits, drop-append-le size b c fits) (second-front n kindSheet _ (drop size b) h)
+    deliver-front h = rw (take-append-le size b c fits, drop-append-le size b c fits) (second-front n isSheetKind _ (drop size b) h)
 
     query-front : stepQuery n size (b ++ c) ≡ stepQuery n size b
     unfolding stepQuery

@@ -10,7 +10,8 @@ use Rattle.state.specs.declared.State.{State}
 use Rattle.state.specs.declared.Cycle.{Cycle}
 use Rattle.state.specs.Time.{cycle, isBeforeCycle, isSameCycle, lastCycle}
 use Rattle.state.specs.WellFormed.{isWellFormed}
-use Rattle.checkpoint.specs.Checkpoint.{decodeCheckpoint, isCheckpoint, readCheckpoint}
+use Rattle.checkpoint.specs.Checkpoint.{readCheckpoint}
+use Rattle.checkpoint.proofs.Fields.{read-well-formed}
 use Rattle.records.specs.declared.Announcement.{Announcement}
 use Rattle.actions.specs.Perform.{advance, perform}
 use Rattle.node.specs.declared.Node.{Node}
@@ -39,14 +40,6 @@ cycle-held s h =
     let t = simp and-eq-true-iff at h in
     let k : 0 < s .cycle .0 = ltb-true _ _ (t .0) in
     ne-eqb (s .cycle .0) 0 (λ e. absurd (omega arith))
-
-decoded-held : (cb : List ℕ) → isCheckpoint cb ≡ true → isWellFormed (decodeCheckpoint cb .state) ≡ true
-unfolding isCheckpoint
-decoded-held cb h = let t = simp and-eq-true-iff at h in t .1 .1
-
-checkpoint-held : (cb : List ℕ) → isCheckpoint cb ≡ true → isWellFormed (readCheckpoint cb .state) ≡ true
-unfolding readCheckpoint
-checkpoint-held cb h = rw h (decoded-held cb h)
 
 performed-held : (n : Node) (a : Announcement) → isNone n ≡ false → isSameCycle (perform (n .state) a .cycle) (cycle 0) ≡ false
 unfolding perform advance
@@ -77,7 +70,7 @@ start-held cb sb h = go (start-comes-to cb sb)
   where
     go : Starting cb sb (startOf cb sb) → isNone (startOf cb sb .node) ≡ false
     go (Starting.refuses k w e) = clash (cc)
-    go (Starting.starts x r o a l e) = rw e (cycle-held (readCheckpoint cb .state) (checkpoint-held cb o))
+    go (Starting.starts x r o a l e) = rw e (cycle-held (readCheckpoint cb .state) (read-well-formed cb o))
 
 pub keeps-node : KeepsNode
 keeps-node n b h =

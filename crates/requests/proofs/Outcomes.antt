@@ -7,8 +7,7 @@ use native.Mathlib.Omega.{arith}
 use lib.Dec.{eqb}
 use lib.ListN.{length, take, drop}
 use borrow.Author.Tests.{eqb-true}
-use Rattle.records.specs.Layout.{kindSheet, kindStart, kindQuery, kindDoorQuery}
-use Rattle.checkpoint.specs.Layout.{kindCheckpoint}
+use Rattle.records.specs.Layout.{kindStart, kindQuery, kindDoorQuery}
 use Rattle.node.specs.declared.Node.{Node}
 use Rattle.node.specs.Start.{startOf}
 use Rattle.node.specs.Deliver.{deliverOf}
@@ -17,7 +16,7 @@ use Rattle.lists.proofs.Tests.{cond-cases}
 use Rattle.requests.specs.declared.Frame.{Frame}
 use Rattle.requests.specs.declared.Frame.the-variants.{Record, Cut}
 use Rattle.requests.specs.declared.Step.{Step}
-use Rattle.requests.specs.Framing.{isAnnouncement, isQuery, frameOf, hasSecond, holdsRequest}
+use Rattle.requests.specs.Framing.{isAnnouncement, isQuery, isCheckpointKind, isSheetKind, frameOf, hasSecond, holdsRequest}
 use Rattle.requests.specs.Requests.{isNone, cuts, answers, deliverAnswer, queryAnswer, afterStart, withSecond, placed, stepOf}
 use Rattle.requests.specs.Requests.{stepStart, stepDeliver, stepQuery}
 use Rattle.requests.proofs.Frames.{frame-fits, frame-some, frame-held, second-fits, one-held, two-held}
@@ -59,10 +58,10 @@ module _ (n : Node) (b : List ℕ) (P : Step → Type 0)
     (deliver : (used : ℕ) (ab sb : List ℕ) → Whole b used
     → P (answers (deliverOf n ab sb .node) (deliverAnswer (deliverOf n ab sb .answer)) used))
     (query : (used : ℕ) (qb : List ℕ) → Whole b used → P (answers (queryOf n qb .node) (queryAnswer (queryOf n qb .answer)) used)) where
-  second-cases : (kind : ℕ) (f : ℕ → List ℕ → Step) (rest : List ℕ) (x : Frame)
-      → ((size k : ℕ) → x ≡ Record size k → P (f size (take size rest))) → P (withSecond n kind f rest x)
-  second-cases kind f rest Cut h = cut
-  second-cases kind f rest (Record size k) h = cond-cases P (eqb k kind) (λ _. h size k refl) (λ _. cut)
+  second-cases : (fits : ℕ → Bool) (f : ℕ → List ℕ → Step) (rest : List ℕ) (x : Frame)
+      → ((size k : ℕ) → x ≡ Record size k → P (f size (take size rest))) → P (withSecond n fits f rest x)
+  second-cases fits f rest Cut h = cut
+  second-cases fits f rest (Record size k) h = cond-cases P (fits k) (λ _. h size k refl) (λ _. cut)
 
   placed-cases : (x : Frame) → frameOf b ≡ x → P (placed n b x)
   unfolding stepStart stepDeliver stepQuery
@@ -71,11 +70,11 @@ module _ (n : Node) (b : List ℕ) (P : Step → Type 0)
       let rest = drop size b in
       let two : (more k : ℕ) → frameOf rest ≡ Record more k → Whole b (size + more) = λ more k g. whole-two b size kind more k e g in
       cond-cases P (eqb kind kindStart)
-      (λ _. second-cases kindCheckpoint _ rest (frameOf rest) (λ more k g. start (size + more) (take more rest) (take size b) (two more k g)))
+      (λ _. second-cases isCheckpointKind _ rest (frameOf rest) (λ more k g. start (size + more) (take more rest) (take size b) (two more k g)))
       (λ _. cond-cases P (isNone n) (λ _. cut)
       (λ _. cond-cases P (isQuery kind) (λ t. query size (take size b) (whole-one b size kind e t))
       (λ _. cond-cases P (isAnnouncement kind)
-      (λ _. second-cases kindSheet _ rest (frameOf rest) (λ more k g. deliver (size + more) (take size b) (take more rest) (two more k g)))
+      (λ _. second-cases isSheetKind _ rest (frameOf rest) (λ more k g. deliver (size + more) (take size b) (take more rest) (two more k g)))
       (λ _. cut))))
 
   pub step-cases : P (stepOf n b)

@@ -1,4 +1,5 @@
--- "Records are framed by their length and placed by their kind (1 to 9, 16, 18, 19, 20)."; "node-run places 21 as a query"
+-- "Records are framed by their length and placed by their kind (1 to 9, 16, 18, 19, 20)."; "node-run places 21 as a query";
+-- kind 26: "node-run places it like 16" (02, A7)
 use Prim.Native.Nat.{ℕ, _+_}
 use mathlib.Core.List.{List}
 use mathlib.Core.Bool.{Bool, cond, not, _&&_, _||_}
@@ -8,7 +9,7 @@ use Rattle.binary.specs.Number.{field}
 use Rattle.state.specs.Kinds.{kindPropose, kindEnd}
 use Rattle.records.specs.Layout.{announcementSize, kindSheet, sheetHead, kindStart, startLength}
 use Rattle.records.specs.Layout.{kindQuery, queryLength, kindDoorQuery, doorQueryLength}
-use Rattle.checkpoint.specs.Layout.{kindCheckpoint, checkpointSize}
+use Rattle.checkpoint.specs.Layout.{kindCheckpoint, checkpointSize, kindEarlier, earlierSize}
 use Rattle.requests.specs.declared.Frame.{Frame}
 use Rattle.requests.specs.declared.Frame.the-variants.{Record, Cut}
 
@@ -30,16 +31,24 @@ isAnnouncement kind = leb kindPropose kind && leb kind kindEnd
 abbrev pub isQuery : ℕ → Bool
 isQuery kind = eqb kind kindQuery || eqb kind kindDoorQuery
 
+abbrev pub isSheetKind : ℕ → Bool
+isSheetKind kind = eqb kind kindSheet
+
+-- kind 26, and kind 16
+abbrev pub isCheckpointKind : ℕ → Bool
+isCheckpointKind kind = eqb kind kindCheckpoint || eqb kind kindEarlier
+
 -- "A record too short for its kind (a sheet: under 7 bytes)": the fewest bytes of a record of that kind
 unfoldable pub leastSize : ℕ → ℕ
 leastSize kind =
     cond (isAnnouncement kind) announcementSize
     (cond (eqb kind kindCheckpoint) checkpointSize
+    (cond (eqb kind kindEarlier) earlierSize
     (cond (eqb kind kindSheet) sheetHead
     (cond (eqb kind kindStart) (startLength + 2)
     (cond (eqb kind kindQuery) (queryLength + 2)
     (cond (eqb kind kindDoorQuery) (doorQueryLength + 2)
-    recordHead)))))
+    recordHead))))))
 
 -- b holds all of the record at its front
 unfoldable pub holdsRecord : List ℕ → Bool

@@ -5,8 +5,7 @@ use mathlib.Core.Bool.{Bool, true, false, cond}
 use lib.Dec.{eqb}
 use lib.ListN.{take, drop}
 use Rattle.state.specs.Time.{cycle, isSameCycle}
-use Rattle.records.specs.Layout.{kindSheet, kindStart}
-use Rattle.checkpoint.specs.Layout.{kindCheckpoint}
+use Rattle.records.specs.Layout.{kindStart}
 use Rattle.node.specs.declared.Node.{Node}
 use Rattle.node.specs.declared.StartReply.{StartReply}
 use Rattle.node.specs.declared.StartAnswer.{StartAnswer}
@@ -23,7 +22,7 @@ use Rattle.requests.specs.declared.Frame.the-variants.{Record, Cut}
 use Rattle.requests.specs.declared.Answer.{Answer}
 use Rattle.requests.specs.declared.Answer.the-variants as Answer
 use Rattle.requests.specs.declared.Step.{Step}
-use Rattle.requests.specs.Framing.{isAnnouncement, isQuery, frameOf}
+use Rattle.requests.specs.Framing.{isAnnouncement, isQuery, isCheckpointKind, isSheetKind, frameOf}
 
 -- The blank node, whose cycle is 0, stands for none: no start takes a checkpoint of cycle 0.
 abbrev pub isNone : Node → Bool
@@ -54,14 +53,14 @@ abbrev pub afterStart : Node → ℕ → StartReply → Step
 afterStart n used r = startStep n used (r .node) (r .answer)
 
 -- the second record, in the input b without the first, and what comes of it: "a request without its second record, counts as cut"
-abbrev pub withSecond : Node → ℕ → (ℕ → List ℕ → Step) → List ℕ → Frame → Step
-withSecond n kind f b Cut = cuts n
-withSecond n kind f b (Record size k) = cond (eqb k kind) (f size (take size b)) (cuts n)
+abbrev pub withSecond : Node → (ℕ → Bool) → (ℕ → List ℕ → Step) → List ℕ → Frame → Step
+withSecond n fits f b Cut = cuts n
+withSecond n fits f b (Record size kind) = cond (fits kind) (f size (take size b)) (cuts n)
 
 -- a start record, the first bytes of b, and a checkpoint
 unfoldable pub stepStart : Node → ℕ → List ℕ → Step
 stepStart n first b =
-    withSecond n kindCheckpoint
+    withSecond n isCheckpointKind
     (λ size checkpoint. afterStart n (first + size) (startOf checkpoint (take first b)))
     (drop first b)
     (frameOf (drop first b))
@@ -69,7 +68,7 @@ stepStart n first b =
 -- an announcement, the first bytes of b, and a sheet
 unfoldable pub stepDeliver : Node → ℕ → List ℕ → Step
 stepDeliver n first b =
-    withSecond n kindSheet
+    withSecond n isSheetKind
     (λ size sheet. let r = deliverOf n (take first b) sheet in answers (r .node) (deliverAnswer (r .answer)) (first + size))
     (drop first b)
     (frameOf (drop first b))

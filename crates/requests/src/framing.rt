@@ -2,11 +2,13 @@
 ghost use mathlib.Core.Path.{_≡_};
 ghost use Prim.Native.Nat.{_≤_};
 ghost use lib.ListN.{length};
-ghost use Rattle.requests.specs.Framing.{recordHead, sizeOf, isAnnouncement, isQuery, leastSize, holdsRecord, frameOf, hasSecond, holdsRequest};
+ghost use Rattle.requests.specs.Framing.{recordHead, sizeOf, isAnnouncement, isQuery, isCheckpointKind, leastSize, holdsRecord, frameOf, hasSecond, holdsRequest};
 use crate::Frame;
 use binary::u16_at;
 use checkpoint::layout::CHECKPOINT;
 use checkpoint::layout::CHECKPOINT_SIZE;
+use checkpoint::layout::EARLIER;
+use checkpoint::layout::EARLIER_SIZE;
 use records::layout::ANNOUNCEMENT_SIZE;
 use records::layout::DOOR_QUERY;
 use records::layout::DOOR_QUERY_SIZE;
@@ -36,6 +38,13 @@ pub fn is_query(kind: u16) -> bool
     (kind == QUERY) | (kind == DOOR_QUERY)
 }
 
+// Whether a record of this kind is a checkpoint, of the kind that is written or of the earlier one.
+pub fn is_checkpoint_kind(kind: u16) -> bool
+    ensures { λ r. ⌜ r ≡ isCheckpointKind kind ⌝ }
+{
+    (kind == CHECKPOINT) | (kind == EARLIER)
+}
+
 // The fewest bytes of a record of this kind.
 fn least_size(kind: u16) -> usize
     ensures { λ r. ⌜ r ≡ leastSize kind ⌝ }
@@ -45,6 +54,7 @@ fn least_size(kind: u16) -> usize
     }
     match kind {
         CHECKPOINT => CHECKPOINT_SIZE,
+        EARLIER => EARLIER_SIZE,
         SHEET => SHEET_HEAD,
         START => START_SIZE,
         QUERY => QUERY_SIZE,

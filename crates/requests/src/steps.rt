@@ -8,8 +8,8 @@ use crate::Frame;
 use crate::Step;
 use crate::framing::frame;
 use crate::framing::is_announcement;
+use crate::framing::is_checkpoint_kind;
 use crate::framing::is_query;
-use checkpoint::layout::CHECKPOINT;
 use node::DeliverAnswer;
 use node::Node;
 use node::QueryAnswer;
@@ -91,7 +91,7 @@ fn step_start(n: Node, first: usize, b: &[u8]) -> Step
     let Frame::Record { size, kind } = second else {
         return cut(n);
     };
-    if kind != CHECKPOINT {
+    if !is_checkpoint_kind(kind) {
         return cut(n);
     }
     let reply = Node::start(&rest[0..size], &b[0..first]);

@@ -10,7 +10,7 @@ use Rattle.records.specs.Actions.{kindOf, levelOf, subjectOf}
 use Rattle.rules.specs.Rules.{isSigned, trusteeRefusal, noticeRefusal, checkRefusal, actionRefusal}
 
 pub judged : (s : State) (d : Day) (mask1 mask2 : ℕ) (x : Action) (kind unsigned unnoticed unfit r : ℕ) → kindOf x ≡ kind
-    → unsigned ≡ trusteeRefusal (isSigned s (levelOf kind) mask1 mask2) → unnoticed ≡ noticeRefusal (s .proposals) d (subjectOf x)
+    → unsigned ≡ trusteeRefusal (isSigned s (levelOf kind) mask1 mask2) → unnoticed ≡ noticeRefusal s d (subjectOf x)
     → unfit ≡ checkRefusal s d x → r ≡ (unsigned orElse lowest unnoticed unfit) → r ≡ actionRefusal s d mask1 mask2 x
 unfolding actionRefusal
 judged s d mask1 mask2 x kind unsigned unnoticed unfit r e a b c f = f ∙ rw (a, b, c, e)

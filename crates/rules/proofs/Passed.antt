@@ -45,14 +45,14 @@ time-within c d a = search bounds depth 9
 -- Rules 8 to 14: the action is signed, has its notice, and its check passes.
 pub record Passes (s : State) (d : Day) (mask1 mask2 : ℕ) (x : Action) : Type 0 where
   pub signed : isSigned s (levelOf (kindOf x)) mask1 mask2 ≡ true
-  pub notified : noticeRefusal (s .proposals) d (subjectOf x) ≡ 0
+  pub notified : noticeRefusal s d (subjectOf x) ≡ 0
   pub checked : checkRefusal s d x ≡ 0
 
 pub action-passes : (s : State) (d : Day) (mask1 mask2 : ℕ) (x : Action) → actionRefusal s d mask1 mask2 x ≡ 0 → Passes s d mask1 mask2 x
 unfolding actionRefusal
 action-passes s d mask1 mask2 x e =
     let p = passes (trusteeRefusal (isSigned s (levelOf (kindOf x)) mask1 mask2)) _ e in
-    let q = lowest-none (noticeRefusal (s .proposals) d (subjectOf x)) (checkRefusal s d x) (p .1) in
+    let q = lowest-none (noticeRefusal s d (subjectOf x)) (checkRefusal s d x) (p .1) in
     record { signed = not-false _ (unrefused _ 8 refl (p .0)); notified = q .0; checked = q .1 }
 
 check-within : (s : State) (d : Day) (x : Action) → checkRefusal s d x ≤ 14

@@ -5,7 +5,7 @@ use Rattle.state.specs.declared.Day.{Day}
 use Rattle.state.specs.declared.State.{State}
 use Rattle.state.specs.Limits.{seatCount}
 use Rattle.state.specs.Seats.{seatAt, presentSeats}
-use Rattle.tables.specs.Proposals.{matureProposal}
+use Rattle.tables.specs.Proposals.{noticeIn}
 use Rattle.records.specs.declared.Action.{Action}
 use Rattle.records.specs.Actions.{subjectOf, seatOf}
 use Rattle.rules.specs.declared.Found.{Found}
@@ -16,4 +16,4 @@ FindsSeats s x f = (f .present ≡ presentSeats (s .seats)) × ((f .present ≤ 
 
 -- and the notice of an action that is announced on day d
 abbrev pub FindsNotice : State → Day → Action → Found → Type 0
-FindsNotice s d x f = f .notice ≡ matureProposal (subjectOf x) d (s .proposals)
+FindsNotice s d x f = f .notice ≡ noticeIn s (subjectOf x) d

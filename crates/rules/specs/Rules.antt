@@ -2,19 +2,17 @@
 use Prim.Native.Nat.{ℕ, _+_, _-_}
 use mathlib.Core.Bool.{Bool, cond, not, _&&_}
 use lib.Dec.{eqb, ltb, leb}
-use mathlib.Core.List.{List}
 use Rattle.refusals.specs.Refusals.{refuseIf, lowest, _orElse_}
 use Rattle.state.specs.declared.Day.{Day}
 use Rattle.state.specs.declared.Cycle.{Cycle}
 use Rattle.state.specs.declared.Subject.{Subject}
-use Rattle.state.specs.declared.Proposal.{Proposal}
 use Rattle.state.specs.declared.Seat.{Seat}
 use Rattle.state.specs.declared.State.{State}
 use Rattle.state.specs.Time.{isBeforeDay, isBeforeCycle, isSameCycle, lastCycle}
 use Rattle.state.specs.Seats.{free, certified, present, seatAt, isPresent, isActive, presentSeats, quorum}
 use Rattle.state.specs.Trustees.{isMajority}
 use Rattle.state.specs.Rows.{isProposal}
-use Rattle.tables.specs.Proposals.{proposalsFull, hasProposal, matureProposal}
+use Rattle.tables.specs.Proposals.{proposalsFull, hasProposal, noticeIn}
 use Rattle.tables.specs.Logins.{isListed, lacksRow}
 use Rattle.records.specs.declared.Announcement.{Announcement}
 use Rattle.records.specs.declared.Action.{Action}
@@ -38,11 +36,11 @@ abbrev pub trusteeRefusal : Bool → ℕ
 trusteeRefusal signed = refuseIf (not signed) 8
 
 -- 10 "no ripe proposal", for an action that has a subject
-abbrev pub lacksNotice : List Proposal → Day → Subject → Bool
-lacksNotice rows d x = not (eqb (x .kind) 0) && not (isProposal (matureProposal x d rows))
+abbrev pub lacksNotice : State → Day → Subject → Bool
+lacksNotice s d x = not (eqb (x .kind) 0) && not (isProposal (noticeIn s x d))
 
-unfoldable pub noticeRefusal : List Proposal → Day → Subject → ℕ
-noticeRefusal rows d x = refuseIf (lacksNotice rows d x) 10
+unfoldable pub noticeRefusal : State → Day → Subject → ℕ
+noticeRefusal s d x = refuseIf (lacksNotice s d x) 10
 
 -- 12 "kind 3, 5 or 6 would leave quorum above p": p, m and k are those after the action
 unfoldable pub quorumRefusal : ℕ → ℕ → ℕ → ℕ
@@ -77,4 +75,4 @@ checkRefusal s d (End login) = refuseIf (not (isListed login (s .logins))) 13
 unfoldable pub actionRefusal : State → Day → ℕ → ℕ → Action → ℕ
 actionRefusal s d mask1 mask2 x =
     trusteeRefusal (isSigned s (levelOf (kindOf x)) mask1 mask2)
-    orElse lowest (noticeRefusal (s .proposals) d (subjectOf x)) (checkRefusal s d x)
+    orElse lowest (noticeRefusal s d (subjectOf x)) (checkRefusal s d x)

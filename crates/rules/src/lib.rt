@@ -59,9 +59,10 @@ pub fn find(s: State, d: Day, action: Action) -> Found
 {
     let seats = s.seats;
     let rows = s.proposals;
+    let notices = s.minima.notices;
     let present = present_seats(seats);
     let seat = seat_at(seats, action.seat());
-    let notice = mature_proposal(rows, action.subject(), d);
+    let notice = mature_proposal(rows, notices, action.subject(), d);
     Found {
         present,
         seat,
@@ -96,7 +97,7 @@ fn trustee_refusal(trustees: u8, mask: u8) -> u8
 
 // Rule 10, where the action has a subject.
 fn notice_refusal(found: Found, action: Action) -> u8
-    ensures { λ r. ⌜ ((s : State) (d : Day) → FindsNotice s d action found → r ≡ noticeRefusal (s .proposals) d (subjectOf action)) ⌝ }
+    ensures { λ r. ⌜ ((s : State) (d : Day) → FindsNotice s d action found → r ≡ noticeRefusal s d (subjectOf action)) ⌝ }
 {
     let subject = action.subject();
     let notice = found.notice;

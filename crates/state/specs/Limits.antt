@@ -1,5 +1,5 @@
 -- The numbers that bound what a node holds: "32 seats", "at most 16 proposals; at most 64 logins", "level-1 and level-2 trustees (1 to 8 each);
--- margin m (0 to 7); least quorum k (1 to 32); silence limit S (1 to 365 days)".
+-- margin m (0 to 7); least quorum k (1 to 32); silence limit S (1 to 365 days)"; "ordinary notice and restart notice, 1 to 30 days each" (02, A7).
 use Prim.Native.Nat.{ℕ}
 
 -- the rows of the three tables
@@ -27,3 +27,6 @@ mostLeast = 32
 
 abbrev pub mostSilence : ℕ
 mostSilence = 365
+
+abbrev pub mostNotice : ℕ
+mostNotice = 30

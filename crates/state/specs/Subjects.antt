@@ -1,7 +1,7 @@
 -- The subject of a proposal: "subject kind 2 (4, 5 or 6), its first 8 argument bytes", these as one little-endian number; "unused ones zero".
 -- "Propose now takes subject kind 7" (02, A6).
 use Prim.Native.Nat.{ℕ, _+_, _*_, _/_, _%_, _^_}
-use mathlib.Core.Bool.{Bool, cond, _&&_, _||_}
+use mathlib.Core.Bool.{Bool, _&&_, _||_}
 use lib.Dec.{eqb, ltb, leb}
 use Rattle.state.specs.declared.Minima.{Minima}
 use Rattle.state.specs.declared.Subject.{Subject}
@@ -23,15 +23,23 @@ certifies seat life = record { kind = kindCertify; arguments = seatAndLife seat 
 unfoldable pub isCertify : ℕ → Bool
 isCertify a = isSeatAndLife a && leb 1 (a / 256)
 
--- "5 minima | m 1, k 1, S 2"
+-- "5 minima | m 1, k 1, S 2", and "two more bytes, ordinary notice and restart notice" (02, A7)
 abbrev pub setsMinima : Minima → Subject
-setsMinima x = record { kind = kindMinima; arguments = x .margin + 256 * x .least + 65536 * x .silence }
+setsMinima x = record {
+  kind = kindMinima;
+  arguments = x .margin + 256 * x .least + 256 ^ 2 * x .silence + 256 ^ 4 * x .notices .ordinary + 256 ^ 5 * x .notices .restart;
+}
 
 abbrev pub minimaIn : ℕ → Minima
-minimaIn a = record { margin = a % 256; least = a / 256 % 256; silence = a / 65536 % 65536 }
+minimaIn a = record {
+  margin = a % 256;
+  least = a / 256 % 256;
+  silence = a / 256 ^ 2 % 256 ^ 2;
+  notices = record { ordinary = a / 256 ^ 4 % 256; restart = a / 256 ^ 5 % 256 };
+}
 
 unfoldable pub isMinima : ℕ → Bool
-isMinima a = isInRange (minimaIn a) && ltb a (256 ^ 4)
+isMinima a = isInRange (minimaIn a) && ltb a (256 ^ 6)
 
 -- "6 remove | seat 1"
 abbrev pub removes : ℕ → Subject
@@ -54,7 +62,3 @@ isSubject x =
     (eqb (x .kind) kindCertify && isCertify (x .arguments))
     || ((eqb (x .kind) kindMinima && isMinima (x .arguments))
     || ((eqb (x .kind) kindRemove && isRemove (x .arguments)) || (eqb (x .kind) kindRejoin && isSeatAndLife (x .arguments))))
-
--- "ripe means announced day minus proposal day is at least 7", and of a rejoin's proposal at least 2 (02, A6), by the kind of its subject
-abbrev pub noticeDays : ℕ → ℕ
-noticeDays kind = cond (eqb kind kindRejoin) 2 7

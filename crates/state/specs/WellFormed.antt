@@ -15,7 +15,7 @@ use Rattle.state.specs.declared.Login.{Login}
 use Rattle.state.specs.declared.State.{State}
 use Rattle.state.specs.Limits.{seatCount, proposalRows, loginRows, mostTrustees}
 use Rattle.state.specs.Time.{isBeforeDay, isSameDay, isBeforeCycle, isSameCycle, cyclesSince, cycle, day}
-use Rattle.state.specs.Minima.{isInRange}
+use Rattle.state.specs.Minima.{isInForce}
 use Rattle.state.specs.Seats.{free, retired, freeSeat, presentSeats, quorumOf}
 use Rattle.state.specs.Subjects.{isSubject}
 use Rattle.state.specs.Rows.{noProposal, isProposal, noLogin, isLogin}
@@ -63,7 +63,7 @@ isTrusteeCount n = leb 1 n && leb n mostTrustees
 unfoldable pub isWellFormed : State → Bool
 isWellFormed s =
     isBeforeCycle (cycle 0) (s .cycle)
-    && ((isTrusteeCount (s .trustees1) && (isTrusteeCount (s .trustees2) && isInRange (s .minima)))
+    && ((isTrusteeCount (s .trustees1) && (isTrusteeCount (s .trustees2) && isInForce (s .minima)))
     && (all isWellFormedSeat (s .seats)
     && (leb (quorumOf s) (presentSeats (s .seats))
     && (areWellFormedProposals (s .cycle) (s .day) (s .proposals)
@@ -76,7 +76,7 @@ blankState = record {
   day = day 0;
   trustees1 = 0;
   trustees2 = 0;
-  minima = record { margin = 0; least = 0; silence = 0 };
+  minima = record { margin = 0; least = 0; silence = 0; notices = record { ordinary = 0; restart = 0 } };
   seats = replicate seatCount freeSeat;
   proposals = replicate proposalRows noProposal;
   logins = replicate loginRows noLogin;

@@ -1,6 +1,7 @@
 // The replicated state of a park (01: the synchronised state), and the helpers of days and cycles.
 pub mod kinds;
 pub mod limits;
+mod ranges;
 pub mod seats;
 pub mod subjects;
 pub mod trustees;
@@ -22,12 +23,19 @@ pub struct Day(pub u32);
 // The number of performed actions plus 1.
 pub struct Cycle(pub u32);
 
-// What the park asks of its quorums and of the age of what a node has heard (01: the minima).
+// The least numbers of days from a proposal to its action: the restart notice is that of a rejoin, the ordinary one that of the other kinds.
+pub struct Notices {
+    pub ordinary: u8,
+    pub restart: u8,
+}
+
+// What the park asks of its quorums, of the age of what a node has heard and of its notices (01: the minima).
 pub struct Minima {
     // The margin m, the least quorum k and the silence limit S in days.
     pub margin: u8,
     pub least: u8,
     pub silence: u16,
+    pub notices: Notices,
 }
 
 // A node's place in the park. A free seat is all zero.
@@ -215,6 +223,10 @@ const BLANK: State = State {
         margin: 0,
         least: 0,
         silence: 0,
+        notices: Notices {
+            ordinary: 0,
+            restart: 0,
+        },
     },
     seats: [NO_SEAT; SEATS],
     proposals: [NO_PROPOSAL; PROPOSAL_ROWS],

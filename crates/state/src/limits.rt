@@ -13,7 +13,7 @@ pub const SEAT_NUMBERS: u8 = 32;
 // Rights are numbered below this: a login has a bit for each.
 pub const RIGHTS: u8 = 16;
 
-// The most trustees of a level, and the greatest margin, least quorum and silence limit.
+// The most trustees of a level, and the greatest margin, least quorum, silence limit and notice.
 pub const MOST_TRUSTEES: u8 = 8;
 
 pub const MOST_MARGIN: u8 = 7;
@@ -21,6 +21,8 @@ pub const MOST_MARGIN: u8 = 7;
 pub const MOST_LEAST: u8 = 32;
 
 pub const MOST_SILENCE: u16 = 365;
+
+pub const MOST_NOTICE: u8 = 30;
 
 // The number of the last cycle, in which nothing is performed.
 pub const LAST_CYCLE: u32 = 4294967295;

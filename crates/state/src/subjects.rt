@@ -1,27 +1,15 @@
 // The subjects of proposals: a kind, 4 certify, 5 minima, 6 remove or 7 rejoin, and its argument bytes as one little-endian number.
 ghost use mathlib.Core.Path.{_≡_};
-ghost use Rattle.state.specs.Minima.{isInRange};
-ghost use Rattle.state.specs.Subjects.{minimaIn, isSeatAndLife, isCertify, isMinima, isRemove, isSubject, noticeDays};
+ghost use Rattle.state.specs.Minima.{noticeDays};
+ghost use Rattle.state.specs.Subjects.{minimaIn, isSeatAndLife, isCertify, isMinima, isRemove, isSubject};
 ghost use Rattle.state.specs.Subjects.{seatAndLife, certifies, setsMinima, removes, rejoins};
 use crate::Minima;
+use crate::Notices;
 use crate::Subject;
 use crate::kinds::CERTIFY;
 use crate::kinds::MINIMA;
 use crate::kinds::REJOIN;
 use crate::kinds::REMOVE;
-use crate::limits::MOST_LEAST;
-use crate::limits::MOST_MARGIN;
-use crate::limits::MOST_SILENCE;
-
-impl Minima {
-    pub fn is_in_range(self) -> bool
-        ensures { λ r. ⌜ r ≡ isInRange self ⌝ }
-    {
-        (self.margin <= MOST_MARGIN)
-            & (((1 <= self.least) & (self.least <= MOST_LEAST))
-                & ((1 <= self.silence) & (self.silence <= MOST_SILENCE)))
-    }
-}
 
 // The minima in a subject's argument bytes.
 fn minima_in(a: u64) -> Minima
@@ -31,6 +19,10 @@ fn minima_in(a: u64) -> Minima
         margin: (a % 256) as u8,
         least: (a / 256 % 256) as u8,
         silence: (a / 65536 % 65536) as u16,
+        notices: Notices {
+            ordinary: (a / 4294967296 % 256) as u8,
+            restart: (a / 1099511627776 % 256) as u8,
+        },
     }
 }
 
@@ -53,7 +45,7 @@ fn is_minima(a: u64) -> bool
     ensures { λ r. ⌜ r ≡ isMinima a ⌝ }
 {
     let minima = minima_in(a);
-    minima.is_in_range() & (a < 4294967296)
+    minima.is_in_range() & (a < 281474976710656)
 }
 
 // A seat below 32, and zero bytes after it.
@@ -79,11 +71,15 @@ impl Subject {
         }
     }
 
-    // The least number of days from a proposal of it to the action.
-    pub fn notice_days(self) -> u32
-        ensures { λ r. ⌜ r ≡ noticeDays (self .kind) ⌝ }
+    // The least number of days from a proposal of it to the action, where these notices are in force.
+    pub fn notice_days(self, x: Notices) -> u32
+        ensures { λ r. ⌜ r ≡ noticeDays x (self .kind) ⌝ }
     {
-        if self.kind == REJOIN { 2 } else { 7 }
+        if self.kind == REJOIN {
+            x.restart as u32
+        } else {
+            x.ordinary as u32
+        }
     }
 }
 
@@ -107,9 +103,14 @@ pub fn certifies(seat: u8, life: u32) -> Subject
 pub fn sets_minima(x: Minima) -> Subject
     ensures { λ r. ⌜ r ≡ setsMinima x ⌝ }
 {
+    let notices = x.notices;
     Subject {
         kind: MINIMA,
-        arguments: (x.margin as u64) + 256 * (x.least as u64) + 65536 * (x.silence as u64),
+        arguments: (x.margin as u64)
+            + 256 * (x.least as u64)
+            + 65536 * (x.silence as u64)
+            + 4294967296 * (notices.ordinary as u64)
+            + 1099511627776 * (notices.restart as u64),
     }
 }
 

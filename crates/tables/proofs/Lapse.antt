@@ -47,7 +47,7 @@ only-lapsed-go d rows r u = record {
 
 -- Where the lapsed rows are dropped, the mature ones of a subject are its notices.
 pub mature-is-notice : MatureIsNotice
-mature-is-notice x k d rows r = record {
+mature-is-notice notices x k d rows r = record {
   notice = λ m e.
       let t = simp and-eq-true-iff at e in
       let kind = eqb-true (r .subject .kind) (x .kind) (t .0) in

@@ -8,29 +8,30 @@ use lib.ListN.{length, replicate}
 use Rattle.lists.specs.Fold.{any}
 use Rattle.lists.specs.Table.{risingFrom}
 use Rattle.state.specs.declared.Day.{Day}
+use Rattle.state.specs.declared.Notices.{Notices}
 use Rattle.state.specs.declared.Subject.{Subject}
 use Rattle.state.specs.declared.Proposal.{Proposal}
 use Rattle.state.specs.Limits.{proposalRows, loginRows}
 use Rattle.state.specs.Time.{daysSince}
-use Rattle.state.specs.Subjects.{noticeDays}
+use Rattle.state.specs.Minima.{noticeDays}
 use Rattle.state.specs.Rows.{noProposal, isProposal, noLogin}
 use Rattle.state.specs.WellFormed.{cycleOf}
 use Rattle.tables.specs.Proposals.{proposalsFull, hasProposal, validDays, isLapsed, dropLapsed, isMature}
 use Rattle.tables.specs.Logins.{loginsFull}
 
--- A notice of a subject: a proposal of it, from 7 to 60 days before the announced day; of a rejoin, from 2 to 60.
-pub record IsNotice (x : Subject) (announced : Day) (r : Proposal) : Type 0 where
+-- A notice of a subject, where these notices are in force: a proposal of it, from as many days as its kind asks to 60 days before the announced day.
+pub record IsNotice (notices : Notices) (x : Subject) (announced : Day) (r : Proposal) : Type 0 where
   pub same : r .subject ≡ x
-  pub days : noticeDays (x .kind) ≤ daysSince announced (r .day)
+  pub days : noticeDays notices (x .kind) ≤ daysSince announced (r .day)
   pub valid : daysSince announced (r .day) ≤ validDays
 
 -- Where the lapsed rows are dropped, the mature ones of a subject are its notices: those, and no others.
-pub record Matures (x : Subject) (d : Day) (rows : List Proposal) (r : Proposal) : Type 0 where
-  pub notice : List·Memᴰ r (dropLapsed d rows) → isMature x d r ≡ true → List·Memᴰ r rows × IsNotice x d r
-  pub mature : List·Memᴰ r rows → IsNotice x d r → List·Memᴰ r (dropLapsed d rows) × (isMature x d r ≡ true)
+pub record Matures (notices : Notices) (x : Subject) (d : Day) (rows : List Proposal) (r : Proposal) : Type 0 where
+  pub notice : List·Memᴰ r (dropLapsed d rows) → isMature notices x d r ≡ true → List·Memᴰ r rows × IsNotice notices x d r
+  pub mature : List·Memᴰ r rows → IsNotice notices x d r → List·Memᴰ r (dropLapsed d rows) × (isMature notices x d r ≡ true)
 
 abbrev pub MatureIsNotice : Type 0
-MatureIsNotice = (x : Subject) → x .kind ≢ 0 → (d : Day) (rows : List Proposal) (r : Proposal) → Matures x d rows r
+MatureIsNotice = (notices : Notices) (x : Subject) → x .kind ≢ 0 → (d : Day) (rows : List Proposal) (r : Proposal) → Matures notices x d rows r
 
 -- Of the used rows those are left that have not lapsed.
 pub record LeftAfter (d : Day) (rows : List Proposal) (r : Proposal) : Type 0 where

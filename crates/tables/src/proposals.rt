@@ -7,6 +7,7 @@ ghost use Rattle.tables.specs.Proposals.{matureProposal};
 use state::Cycle;
 use state::Day;
 use state::NO_PROPOSAL;
+use state::Notices;
 use state::Proposal;
 use state::Subject;
 use state::limits::PROPOSAL_ROWS;
@@ -30,14 +31,15 @@ fn is_lapsed(row: Proposal, announced: Day) -> bool
     row.is_used() & (VALID_DAYS < announced.since(day))
 }
 
-// A row of this subject that is mature on the announced day.
-fn is_mature(row: Proposal, subject: Subject, announced: Day) -> bool
-    ensures { λ r. ⌜ r ≡ isMature subject announced row ⌝ }
+// A row of this subject that is mature on the announced day, where these notices are in force.
+fn is_mature(row: Proposal, notices: Notices, subject: Subject, announced: Day) -> bool
+    ensures { λ r. ⌜ r ≡ isMature notices subject announced row ⌝ }
 {
     let day = row.day;
     let own = row.subject;
     (own.kind == subject.kind)
-        & ((own.arguments == subject.arguments) & (subject.notice_days() <= announced.since(day)))
+        & ((own.arguments == subject.arguments)
+            & (subject.notice_days(notices) <= announced.since(day)))
 }
 
 // Whether the last row is used.
@@ -147,18 +149,19 @@ pub fn drop_lapsed(rows: [Proposal; PROPOSAL_ROWS], announced: Day) -> [Proposal
     out
 }
 
-// The first row of this subject that is mature on the announced day, or an unused row.
+// The first row of this subject that is mature on the announced day, where these notices are in force, or an unused row.
 pub fn mature_proposal(
     rows: [Proposal; PROPOSAL_ROWS],
+    notices: Notices,
     subject: Subject,
     announced: Day,
 ) -> Proposal
-    ensures { λ r. ⌜ r ≡ matureProposal subject announced rows ⌝ }
+    ensures { λ r. ⌜ r ≡ matureProposal notices subject announced rows ⌝ }
 {
     let mut i: usize = 0;
     while i < PROPOSAL_ROWS {
         let row = rows[i];
-        if is_mature(row, subject, announced) {
+        if is_mature(row, notices, subject, announced) {
             return row;
         }
         i = i + 1;

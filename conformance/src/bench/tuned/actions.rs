@@ -1,6 +1,6 @@
 //! The nine actions, in place.
 
-use super::announcement::{Action, Announcement};
+use super::announcement::{Action, Announcement, Minima};
 use super::rules::{place_of_cycle, ripe};
 use super::state::{Login, Proposal, Seat, State, CERTIFIED, PRESENT, RETIRED};
 
@@ -28,11 +28,7 @@ pub fn perform(state: &mut State, announced: &Announcement) {
             let standing = CERTIFIED;
             state.seats[seat] = Seat { standing, life };
         }
-        Action::Minima {
-            margin,
-            least,
-            silence,
-        } => (state.margin, state.least, state.silence) = (margin, least, silence),
+        Action::Minima(named) => set_minima(state, named),
         Action::Remove { seat } => state.seats[seat].standing = RETIRED,
         Action::Rejoin { seat, life } => state.seats[seat].life = life,
         Action::Grant(row) => grant(state, row),
@@ -43,6 +39,17 @@ pub fn perform(state: &mut State, announced: &Announcement) {
         }
     }
     (state.cycle, state.day) = (cycle + 1, day);
+}
+
+fn set_minima(state: &mut State, named: Minima) {
+    (state.margin, state.least) = (named.margin, named.least);
+    state.silence = named.silence;
+    if named.ordinary != 0 {
+        state.ordinary = named.ordinary;
+    }
+    if named.restart != 0 {
+        state.restart = named.restart;
+    }
 }
 
 fn grant(state: &mut State, row: Login) {

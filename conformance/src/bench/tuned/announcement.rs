@@ -3,12 +3,22 @@
 use super::bytes::{all_zero, is_record, u16_at, u32_at, u64_at};
 use super::state::Login;
 
+#[derive(Clone, Copy)]
+pub struct Minima {
+    pub margin: u8,
+    pub least: u8,
+    pub silence: u16,
+    /// In days; zero keeps the one in force.
+    pub ordinary: u8,
+    pub restart: u8,
+}
+
 pub enum Action {
     Propose { kind: u16, arguments: u64 },
     Cancel { cycle: u32 },
     Presents { seat: usize, flag: bool },
     Certify { seat: usize, life: u32 },
-    Minima { margin: u8, least: u8, silence: u16 },
+    Minima(Minima),
     Remove { seat: usize },
     Rejoin { seat: usize, life: u32 },
     Grant(Login),
@@ -24,6 +34,9 @@ pub struct Announcement {
     pub action: Action,
 }
 
+/// In days.
+pub const MOST_NOTICE: u8 = 30;
+
 pub fn is_minima(margin: u8, least: u8, silence: u16) -> bool {
     margin <= 7 && (1..=32).contains(&least) && (1..=365).contains(&silence)
 }
@@ -33,7 +46,9 @@ pub fn is_subject(kind: u16, arguments: u64) -> bool {
     match kind {
         4 => arguments as u8 <= 31 && arguments >> 8 != 0 && arguments >> 40 == 0,
         5 => {
-            arguments >> 32 == 0
+            arguments >> 48 == 0
+                && (arguments >> 32) as u8 <= MOST_NOTICE
+                && (arguments >> 40) as u8 <= MOST_NOTICE
                 && is_minima(
                     arguments as u8,
                     (arguments >> 8) as u8,
@@ -111,11 +126,13 @@ fn read_subject(kind: u16, bytes: &[u8]) -> Action {
     let (seat, life) = (usize::from(bytes[0]), u32_at(bytes, 1));
     match kind {
         4 => Action::Certify { seat, life },
-        5 => Action::Minima {
+        5 => Action::Minima(Minima {
             margin: bytes[0],
             least: bytes[1],
             silence: u16_at(bytes, 2),
-        },
+            ordinary: bytes[4],
+            restart: bytes[5],
+        }),
         6 => Action::Remove { seat },
         _ => Action::Rejoin { seat, life },
     }

@@ -26,7 +26,7 @@ pub fn node_start(checkpoint: &[u8], start: &[u8], out: &mut [u8]) -> u32 {
     if asked.life < seat.life {
         return 14;
     }
-    out[..CHECKPOINT].copy_from_slice(checkpoint);
+    image::copy(checkpoint, out);
     write_afresh(out, &start[4..9]);
     0
 }

@@ -1,14 +1,30 @@
 //! The checkpoint and the image, read and checked in one pass; the checkpoint written.
 
-use super::announcement::{is_minima, is_subject, Announcement};
+use super::announcement::{is_minima, is_subject, Announcement, MOST_NOTICE};
 use super::bytes::{all_zero, is_record, u16_at, u32_at, u64_at};
 use super::state::{quorum, Login, Proposal, Seat, State, FREE, PRESENT, RETIRED};
 
-pub const CHECKPOINT: usize = 1108;
-pub const IMAGE: usize = 1142;
-const SEATS: usize = 18;
-const PROPOSALS: usize = 178;
-const LOGINS: usize = 467;
+/// The bytes of a checkpoint of kind 26, and those of one of kind 16.
+pub const CHECKPOINT: usize = 1110;
+const OLD_CHECKPOINT: usize = 1108;
+pub const IMAGE: usize = 1144;
+/// Where the notices of kind 26 stand.
+const NOTICES: usize = 18;
+const SEATS: usize = 20;
+const PROPOSALS: usize = 180;
+const LOGINS: usize = 469;
+
+/// The tables of either kind.
+type Tables = [u8; CHECKPOINT - SEATS];
+
+/// Of a size that the compiler knows, so that it leaves out the tests of places.
+#[inline]
+fn tables(bytes: &[u8]) -> &Tables {
+    bytes.try_into().expect("a checkpoint has its size")
+}
+
+/// The length and the kind of the checkpoint that is written: 1,108 and 26.
+const HEAD: [u8; 4] = [0x54, 0x04, 26, 0];
 
 /// The place of the own part in an image and of its fields; the misses of each door have a byte.
 pub const OWN: usize = CHECKPOINT;
@@ -25,24 +41,47 @@ pub struct Own<'a> {
 }
 
 impl State {
-    /// False where the bytes are not a well-formed checkpoint.
+    /// False where the bytes are not a well-formed checkpoint of either kind.
     pub fn read(&mut self, bytes: &[u8]) -> bool {
-        if !is_record(bytes, CHECKPOINT, 16) {
+        if is_record(bytes, OLD_CHECKPOINT, 16) {
+            return self.read_numbers(bytes, [7, 2]) && self.read_tables(tables(&bytes[NOTICES..]));
+        }
+        self.read_current(bytes)
+    }
+
+    /// The same for kind 26 alone, the one that an image holds.
+    #[inline]
+    fn read_current(&mut self, bytes: &[u8]) -> bool {
+        if !is_record(bytes, CHECKPOINT, 26) {
             return false;
         }
+        let notices = [bytes[NOTICES], bytes[NOTICES + 1]];
+        self.read_numbers(bytes, notices) && self.read_tables(tables(&bytes[SEATS..]))
+    }
+
+    #[inline]
+    fn read_numbers(&mut self, bytes: &[u8], notices: [u8; 2]) -> bool {
         self.cycle = u32_at(bytes, 4);
         self.day = u32_at(bytes, 8);
         self.trustees = [bytes[12], bytes[13]];
         self.margin = bytes[14];
         self.least = bytes[15];
         self.silence = u16_at(bytes, 16);
+        [self.ordinary, self.restart] = notices;
         self.cycle >= 1
             && self.trustees.iter().all(|count| (1..=8).contains(count))
             && is_minima(self.margin, self.least, self.silence)
-            && self.read_seats(&bytes[SEATS..PROPOSALS])
+            && notices.iter().all(|days| (1..=MOST_NOTICE).contains(days))
+    }
+
+    #[inline]
+    fn read_tables(&mut self, bytes: &Tables) -> bool {
+        let (seats, bytes) = bytes.split_at(PROPOSALS - SEATS);
+        let (proposals, logins) = bytes.split_at(LOGINS - PROPOSALS);
+        self.read_seats(seats)
             && quorum(self.present, self.margin, self.least) <= self.present
-            && self.read_proposals(bytes[PROPOSALS].into(), &bytes[PROPOSALS + 1..LOGINS])
-            && self.read_logins(bytes[LOGINS].into(), &bytes[LOGINS + 1..CHECKPOINT])
+            && self.read_proposals(proposals[0].into(), &proposals[1..])
+            && self.read_logins(logins[0].into(), &logins[1..])
     }
 
     fn read_seats(&mut self, bytes: &[u8]) -> bool {
@@ -112,12 +151,12 @@ impl State {
     /// Writes the checkpoint to the front of a slice.
     pub fn write(&self, out: &mut [u8]) {
         let out = &mut out[..CHECKPOINT];
-        out[..2].copy_from_slice(&1106u16.to_le_bytes());
-        out[2..4].copy_from_slice(&16u16.to_le_bytes());
+        out[..4].copy_from_slice(&HEAD);
         out[4..8].copy_from_slice(&self.cycle.to_le_bytes());
         out[8..12].copy_from_slice(&self.day.to_le_bytes());
         out[12..16].copy_from_slice(&[self.trustees[0], self.trustees[1], self.margin, self.least]);
         out[16..18].copy_from_slice(&self.silence.to_le_bytes());
+        out[NOTICES..SEATS].copy_from_slice(&[self.ordinary, self.restart]);
         for (row, seat) in out[SEATS..PROPOSALS].chunks_exact_mut(5).zip(&self.seats) {
             row[0] = seat.standing;
             row[1..].copy_from_slice(&seat.life.to_le_bytes());
@@ -150,9 +189,21 @@ impl State {
     }
 }
 
+/// Writes the checkpoint of kind 26 for a well-formed one of either kind.
+pub fn copy(checkpoint: &[u8], out: &mut [u8]) {
+    if checkpoint.len() == CHECKPOINT {
+        out[..CHECKPOINT].copy_from_slice(checkpoint);
+        return;
+    }
+    out[..4].copy_from_slice(&HEAD);
+    out[4..NOTICES].copy_from_slice(&checkpoint[4..NOTICES]);
+    out[NOTICES..SEATS].copy_from_slice(&[7, 2]);
+    out[SEATS..CHECKPOINT].copy_from_slice(&checkpoint[NOTICES..]);
+}
+
 /// Reads an image: its state into `state`, and its own part.
 pub fn read<'a>(image: &'a [u8], state: &mut State) -> Option<Own<'a>> {
-    if image.len() != IMAGE || !state.read(&image[..CHECKPOINT]) {
+    if image.len() != IMAGE || !state.read_current(&image[..CHECKPOINT]) {
         return None;
     }
     let own = Own {

@@ -36,8 +36,8 @@ pub fn action_refusal(state: &State, announced: &Announcement) -> u32 {
         Action::Presents { seat, flag } => presents_refusal(state, seat, flag),
         Action::Certify { seat, .. } if state.seats[seat].standing != FREE => 9,
         Action::Certify { .. } if !is_ripe() => 10,
-        Action::Minima { .. } if !is_ripe() => 10,
-        Action::Minima { margin, least, .. } => short(state.present, margin, least),
+        Action::Minima(_) if !is_ripe() => 10,
+        Action::Minima(named) => short(state.present, named.margin, named.least),
         Action::Remove { seat } if !is_active(seat) => 9,
         Action::Remove { .. } if !is_ripe() => 10,
         Action::Remove { seat } => {
@@ -73,14 +73,17 @@ fn short(present: u8, margin: u8, least: u8) -> u32 {
     12 * u32::from(present < quorum(present, margin, least))
 }
 
-/// The place of the first proposal with the kind and the arguments that is at least 7 days old, for a
-/// rejoin 2; none has lapsed.
+/// The place of the first proposal with the kind and the arguments that is as old as its notice; none
+/// has lapsed.
 pub fn ripe(state: &State, announced: &Announcement) -> Option<usize> {
-    let least = if announced.kind == 7 { 2 } else { 7 };
+    let least = match announced.kind {
+        7 => state.restart,
+        _ => state.ordinary,
+    };
     state.proposals.used().iter().position(|row| {
         row.arguments == announced.arguments
             && row.kind == announced.kind
-            && announced.day - row.day >= least
+            && announced.day - row.day >= least.into()
     })
 }
 

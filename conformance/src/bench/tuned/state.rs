@@ -39,6 +39,9 @@ pub struct State {
     pub margin: u8,
     pub least: u8,
     pub silence: u16,
+    /// In days: for kinds 4 to 6, for kind 7.
+    pub ordinary: u8,
+    pub restart: u8,
     pub present: u8,
     pub seats: [Seat; 32],
     pub proposals: Table<Proposal, 16>,
@@ -103,6 +106,8 @@ impl State {
         margin: 0,
         least: 0,
         silence: 0,
+        ordinary: 0,
+        restart: 0,
         present: 0,
         seats: [Seat {
             standing: FREE,

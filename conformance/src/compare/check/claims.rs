@@ -1,13 +1,14 @@
 //! The claims about a whole history (document 01, "One park, one list"): nodes at equal cycles
 //! share one state, and an ended login is not open beyond the silence limit. Both hold for lawful
 //! starts within the bound on double voters. The claims about pages are in `pages`, those about
-//! notices in `notices`, those about lives in `restarts`, those about doors in `doors`.
+//! notices in `notices` and `settings`, those about lives in `restarts`, those about doors in `doors`.
 
 use super::doors;
 use super::notices;
 use super::one_call;
 use super::pages::{Pages, WORDS};
 use super::restarts;
+use super::settings;
 use crate::compare::call::{Event, Records};
 use crate::compare::fields::StateFields;
 use crate::layout::{self, kind_of, ARGUMENTS, BODY, CYCLE_AND_DAY, QUERY};
@@ -95,6 +96,7 @@ impl Claims {
     pub fn note(&mut self, event: &Event) -> Result<(), String> {
         notices::check(event)?;
         restarts::check(event)?;
+        settings::check(event)?;
         doors::check(event)?;
         let (0, Some(written)) = (event.outcome.number, &event.outcome.written) else {
             return Ok(());

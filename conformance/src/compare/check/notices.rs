@@ -1,11 +1,13 @@
 //! The claims about notices that lapse (request A3), on every call of a history: a performed delivery
-//! leaves no lapsed proposal, and one that needs a proposal uses up exactly one of 7 to 60 days, a
-//! rejoin one of 2 to 60 days (request A6); every other call leaves the state's checkpoint as it was.
+//! leaves no lapsed proposal, and one that needs a proposal uses up exactly one, that of lowest cycle of
+//! those that are as old as the notice in force before it and at most 60 days (requests A6 and A7);
+//! every other call leaves the state's checkpoint as it was, a start the one of kind 26 for the state
+//! that it was given.
 
 use super::one_call;
 use crate::compare::call::{Event, Records};
-use crate::compare::fields::{notice, Proposal, StateFields};
-use crate::layout::{self, kind_of, ARGUMENTS, BODY, CHECKPOINT_SIZE, CYCLE_AND_DAY};
+use crate::compare::fields::{Notices, Proposal, StateFields};
+use crate::layout::{self, kind_of, to_current, ARGUMENTS, BODY, CHECKPOINT_SIZE, CYCLE_AND_DAY};
 
 pub fn check(event: &Event) -> Result<(), String> {
     let Event {
@@ -17,8 +19,8 @@ pub fn check(event: &Event) -> Result<(), String> {
         (Records::Deliver(announcement, _), 0) => {
             return performed(&request.image, announcement, held);
         }
-        (Records::Start(checkpoint, _), 0) => checkpoint,
-        _ => &request.image,
+        (Records::Start(checkpoint, _), 0) => to_current(checkpoint),
+        _ => request.image.as_slice().into(),
     };
     // A host that holds no node has no checkpoint.
     match one_call::checkpoint_of(held).as_deref() == before.get(..CHECKPOINT_SIZE) {
@@ -41,7 +43,7 @@ fn performed(image: &[u8], announcement: &[u8], held: &[u8]) -> Result<(), Strin
             "the proposal of cycle {cycle} has lapsed on the agreed day {day}"
         ));
     }
-    match after.proposals == left(before.proposals, announcement)? {
+    match after.proposals == left(before.proposals, before.notices, announcement)? {
         true => Ok(()),
         false => Err(format!(
             "kind {} leaves other proposals than it should",
@@ -51,7 +53,11 @@ fn performed(image: &[u8], announcement: &[u8], held: &[u8]) -> Result<(), Strin
 }
 
 /// The rows that a performed announcement leaves, in their order.
-fn left(mut rows: Vec<Proposal>, announcement: &[u8]) -> Result<Vec<Proposal>, String> {
+fn left(
+    mut rows: Vec<Proposal>,
+    in_force: Notices,
+    announcement: &[u8],
+) -> Result<Vec<Proposal>, String> {
     let [_, day] = layout::read(&CYCLE_AND_DAY, announcement, BODY);
     rows.retain(|row| !row.is_lapsed(day));
     match kind_of(announcement) {
@@ -61,9 +67,10 @@ fn left(mut rows: Vec<Proposal>, announcement: &[u8]) -> Result<Vec<Proposal>, S
             rows.retain(|row| row.cycle != cycle);
         }
         kind @ 4..=7 => {
-            let fits = |row: &Proposal| row.is_subject_of(announcement) && row.is_ripe(day);
+            let fits =
+                |row: &Proposal| row.is_subject_of(announcement) && row.is_ripe(day, in_force);
             let used = rows.iter().position(fits);
-            let least = notice(kind);
+            let least = in_force.of(kind);
             let missing =
                 || format!("kind {kind} is performed with no proposal of {least} to 60 days");
             rows.remove(used.ok_or_else(missing)?);

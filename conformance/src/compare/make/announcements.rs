@@ -3,8 +3,8 @@
 use super::arguments;
 use super::random::Random;
 use super::records;
-use crate::compare::fields::{notice, Proposal, StateFields};
-use crate::layout::PROPOSALS;
+use crate::compare::fields::{Proposal, StateFields};
+use crate::layout::{MINIMA_KIND, PROPOSALS};
 
 /// Well formed and of the state's cycle.
 pub fn well_formed(rng: &mut Random, state: &StateFields) -> Vec<u8> {
@@ -30,10 +30,43 @@ fn content(rng: &mut Random, state: &StateFields) -> (u16, u32, [u8; 12]) {
     (kind, day, arguments::arguments(rng, state, kind, day))
 }
 
+/// Of the state's cycle: a proposal, of minima above all, or the subject of a listed one. With it
+/// the notices change and change again while proposals are listed.
+pub fn about_proposals(rng: &mut Random, state: &StateFields) -> Vec<u8> {
+    let is_used = rng.chance(60) && !state.proposals.is_empty();
+    let (kind, day, arguments) = match is_used {
+        true => soon(rng, state),
+        false => {
+            let (kind, subject) = match rng.chance(30) {
+                true => (MINIMA_KIND, arguments::subject(rng, state, MINIMA_KIND)),
+                false => arguments::any(rng, state),
+            };
+            (1, day(rng, state), records::propose(kind, subject))
+        }
+    };
+    records::announcement(kind, state.cycle, day, arguments)
+}
+
+/// The subject of a listed proposal as soon as its notice is over, every other time the latest that is
+/// ripe: it may be younger than the notice before the last change.
+fn soon(rng: &mut Random, state: &StateFields) -> (u16, u32, [u8; 12]) {
+    let any = state.proposals[rng.below(state.proposals.len())];
+    let rows = state.proposals.iter();
+    let ripe = rows.filter(|row| row.is_ripe(state.day, state.notices));
+    let row = match ripe.max_by_key(|row| row.day) {
+        Some(latest) if rng.chance(50) => *latest,
+        _ => any,
+    };
+    let least = state.notices.of(row.kind);
+    let age = rng.pick(&[least - 1, least, least, least, least + 1]);
+    let day = row.day.saturating_add(age).max(state.day);
+    used(rng, state, &row, day)
+}
+
 /// The subject of a listed proposal, around the days on which its notice ends and on which it lapses.
 fn due(rng: &mut Random, state: &StateFields) -> (u16, u32, [u8; 12]) {
     let row = state.proposals[rng.below(state.proposals.len())];
-    let least = notice(row.kind);
+    let least = state.notices.of(row.kind);
     let age = match rng.below(9) {
         0 => least - 1,
         1..=4 => least,
@@ -42,9 +75,16 @@ fn due(rng: &mut Random, state: &StateFields) -> (u16, u32, [u8; 12]) {
         _ => 61,
     };
     let day = on_age(rng, state, &row, age);
+    used(rng, state, &row, day)
+}
+
+/// The subject of a listed proposal on a day; seldom with other arguments.
+fn used(rng: &mut Random, state: &StateFields, row: &Proposal, day: u32) -> (u16, u32, [u8; 12]) {
     let mut arguments = row.arguments;
     if rng.chance(4) {
         arguments = arguments::subject(rng, state, row.kind);
+    } else if row.kind == MINIMA_KIND && rng.chance(8) {
+        arguments::keep_otherwise(rng, state.notices, &mut arguments);
     }
     (row.kind, day, records::arguments(&arguments))
 }

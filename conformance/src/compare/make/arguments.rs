@@ -3,7 +3,7 @@
 use super::random::Random;
 use super::records;
 use super::values;
-use crate::compare::fields::{Proposal, StateFields, CERTIFIED, FREE, PRESENT};
+use crate::compare::fields::{Notices, Proposal, StateFields, CERTIFIED, FREE, PRESENT};
 use crate::layout::{self, ACTIONS, LEAST_QUORUM, MARGIN, SEAT, SUBJECT_KIND, SUBJECT_SIZE};
 
 /// Chance in percent that arguments are made without a look at the state.
@@ -22,6 +22,8 @@ pub fn subject(rng: &mut Random, state: &StateFields, kind: u16) -> [u8; SUBJECT
         // apart.
         4 if rng.chance(15) => {
             let mut both = minima(rng, state);
+            // A certify has no byte in the place of the restart notice.
+            both[5] = 0;
             both[0] = (0..=MARGIN.high as u8)
                 .find(|&seat| state.seats[usize::from(seat)].standing == FREE)
                 .unwrap_or(both[0]);
@@ -65,7 +67,21 @@ fn minima(rng: &mut Random, state: &StateFields) -> [u8; SUBJECT_SIZE] {
         rng.within(1, top)
     };
     let silence = values::any_silence(rng).into();
-    records::subject(5, &[margin, least, silence])
+    let ordinary = values::named_notice(rng, state.notices.ordinary);
+    let restart = values::named_notice(rng, state.notices.restart);
+    records::subject(5, &[margin, least, silence, ordinary, restart])
+}
+
+/// Minima that leave the same notices in force and name one of them otherwise: a kept one by its days,
+/// the one in force by zero. Others stay as they are.
+pub fn keep_otherwise(rng: &mut Random, in_force: Notices, arguments: &mut [u8; SUBJECT_SIZE]) {
+    let places = [(4, in_force.ordinary as u8), (5, in_force.restart as u8)];
+    let (place, in_force) = rng.pick(&places);
+    match &mut arguments[place] {
+        named @ 0 => *named = in_force,
+        named if *named == in_force => *named = 0,
+        _ => {}
+    }
 }
 
 fn seat_of(rng: &mut Random, state: &StateFields, standings: &[u8]) -> u8 {

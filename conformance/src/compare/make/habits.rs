@@ -20,6 +20,8 @@ pub struct Habits {
     pub pages: u32,
     /// Starts at a host that holds a node:
     pub restarts: u32,
+    /// Announcements about proposals, of minima above all:
+    pub proposals: u32,
     /// A login that much of the history is about, or 0.
     pub focus: u32,
 }
@@ -35,6 +37,7 @@ impl Habits {
             checkpoints: rng.pick(&[3, 8]),
             pages: rng.pick(&[2, 6]),
             restarts: rng.pick(&[1, 4, 10]),
+            proposals: rng.pick(&[0, 60]),
             focus: if rng.chance(25) {
                 values::any_login(rng)
             } else {

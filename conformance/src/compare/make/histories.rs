@@ -41,7 +41,8 @@ pub struct HistoryMaker {
 impl HistoryMaker {
     /// A maker, and the history without its calls.
     pub fn new(mut rng: Random) -> (HistoryMaker, History) {
-        let first = states::any_state(&mut rng).write();
+        let first = states::any_state(&mut rng);
+        let first = states::checkpoint(&mut rng, &first);
         let by_value = (0..rng.within(3, 8)).map(|_| rng.chance(40)).collect();
         let habits = Habits::any(&mut rng);
         let history = History {
@@ -153,9 +154,11 @@ impl HistoryMaker {
             return Records::Checkpoint;
         };
         if !self.habits.lawful && self.rng.chance(20) {
-            checkpoint = states::any_state(&mut self.rng).write();
+            let other = states::any_state(&mut self.rng);
+            checkpoint = states::checkpoint(&mut self.rng, &other);
         } else if self.rng.chance(self.habits.damage) {
             checkpoint = malformed::checkpoint(&mut self.rng, &state);
+            checkpoint = states::of_either_kind(&mut self.rng, 30, checkpoint);
         }
         let mut start = starts_queries::start(&mut self.rng, &state);
         self.damage(&mut start);
@@ -221,6 +224,9 @@ impl HistoryMaker {
             (_, Some(vote)) if self.rng.chance(40) => vote.clone(),
             _ if self.habits.focus > 0 && self.rng.chance(50) => {
                 ended_logins::announcement(&mut self.rng, state, self.habits.focus)
+            }
+            _ if self.rng.chance(self.habits.proposals) => {
+                announcements::about_proposals(&mut self.rng, state)
             }
             _ => announcements::any(&mut self.rng, state),
         }

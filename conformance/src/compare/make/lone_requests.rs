@@ -10,7 +10,7 @@ use super::states;
 use super::values::LAST_DATE;
 use crate::compare::call::{Records, Request};
 use crate::compare::fields::{Login, OwnFields, Proposal, StateFields};
-use crate::layout::{kind_of, CHECKPOINT_SIZE, DOORS, LOGINS};
+use crate::layout::{kind_of, to_old, CHECKPOINT_SIZE, DOORS, LOGINS};
 
 /// Requests to one state.
 pub fn requests(rng: &mut Random) -> Vec<Request> {
@@ -46,23 +46,27 @@ pub fn ends() -> Vec<Request> {
     vec![request(&late, cancel), request(&early, grant)]
 }
 
+/// A full list of which the first login ends on a day, each other a day after the one before.
+pub fn logins(first: u32) -> impl Iterator<Item = Login> {
+    (0..LOGINS.most as u32).map(move |place| Login {
+        login: 1 + place,
+        end: first + place,
+        rights: 1,
+    })
+}
+
 /// Pages of full lists with every end day that has a date, and with the first that has none.
 pub fn dates() -> impl Iterator<Item = Request> {
     (0..=LAST_DATE + 1).step_by(LOGINS.most).map(|first| {
-        let rows = (0..LOGINS.most as u32).map(|place| Login {
-            login: 1 + place,
-            end: first + place,
-            rights: 1,
-        });
         let mut state = StateFields::printed_run();
-        state.logins = rows.collect();
+        state.logins = logins(first).collect();
         let page = Records::Page(state.day);
         to_member(&state, page)
     })
 }
 
 /// A request to a node of the printed run's seats.
-fn to_member(state: &StateFields, records: Records) -> Request {
+pub fn to_member(state: &StateFields, records: Records) -> Request {
     let own = OwnFields {
         seat: 0,
         life: 1,
@@ -106,11 +110,15 @@ fn any_request(rng: &mut Random, state: &StateFields, own: &OwnFields) -> Reques
 
 fn spoiled(rng: &mut Random, state: &StateFields, own: &OwnFields) -> Vec<u8> {
     let mut image = own.image(state);
-    if rng.chance(50) {
-        malformed::own(rng, &mut image);
-    } else {
-        image[..CHECKPOINT_SIZE].copy_from_slice(&malformed::checkpoint(rng, state));
-    }
+    let checkpoint = match rng.below(20) {
+        0..=9 => {
+            malformed::own(rng, &mut image);
+            return image;
+        }
+        10 => to_old(&state.write()),
+        _ => malformed::checkpoint(rng, state),
+    };
+    image.splice(..CHECKPOINT_SIZE, checkpoint);
     image
 }
 
@@ -126,9 +134,10 @@ fn deliver(rng: &mut Random, state: &StateFields, own: &OwnFields) -> Records {
 
 fn start(rng: &mut Random, state: &StateFields) -> Records {
     let checkpoint = if rng.chance(50) {
-        malformed::checkpoint(rng, state)
+        let malformed = malformed::checkpoint(rng, state);
+        states::of_either_kind(rng, 30, malformed)
     } else {
-        state.write()
+        states::checkpoint(rng, state)
     };
     Records::Start(checkpoint, starts_queries::start(rng, state))
 }

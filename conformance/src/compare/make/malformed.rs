@@ -23,7 +23,7 @@ pub fn bytes(rng: &mut Random, record: &mut Vec<u8>) {
             record.resize(record.len() + more, byte);
         }
         2 if record.len() >= BODY => {
-            record[2] = rng.below(24) as u8;
+            record[2] = rng.below(28) as u8;
             record[3] = rng.pick(&[0, 0, 0, 1, 255]);
         }
         3 if record.len() >= 2 => record[0] = record[0].wrapping_add(rng.pick(&[1, 255, 5])),

@@ -5,9 +5,9 @@ use super::arguments;
 use super::random::Random;
 use super::values;
 use crate::compare::fields::{
-    Login, OwnFields, Proposal, Seat, StateFields, CERTIFIED, FREE, PRESENT, RETIRED,
+    Login, Notices, OwnFields, Proposal, Seat, StateFields, CERTIFIED, FREE, PRESENT, RETIRED,
 };
-use crate::layout::{LOGINS, MISSES, PROPOSALS, SEATS, SUBJECT_SIZE};
+use crate::layout::{to_old, LOGINS, MISSES, PROPOSALS, SEATS, SUBJECT_SIZE};
 use std::collections::BTreeSet;
 
 pub fn any_state(rng: &mut Random) -> StateFields {
@@ -20,6 +20,24 @@ pub fn any_state(rng: &mut Random) -> StateFields {
     set_proposals(rng, &mut state);
     set_logins(rng, &mut state);
     state
+}
+
+/// The checkpoint of a state, of kind 16 now and then; its notices are then others, unless they are
+/// those of old.
+pub fn checkpoint(rng: &mut Random, state: &StateFields) -> Vec<u8> {
+    let percent = match state.notices == Notices::OF_OLD {
+        true => 60,
+        false => 20,
+    };
+    of_either_kind(rng, percent, state.write())
+}
+
+/// With this chance in percent a checkpoint of kind 26 as one of kind 16.
+pub fn of_either_kind(rng: &mut Random, percent: u32, checkpoint: Vec<u8>) -> Vec<u8> {
+    match rng.chance(percent) {
+        true => to_old(&checkpoint),
+        false => checkpoint,
+    }
 }
 
 fn set_seats(rng: &mut Random, state: &mut StateFields) {
@@ -67,6 +85,7 @@ fn set_minima(rng: &mut Random, state: &mut StateFields) {
         _ => rng.within(1, present as u32),
     } as u8;
     state.silence = values::any_silence(rng);
+    state.notices = values::any_notices(rng);
 }
 
 /// Proposals of ages that belong together, many with the same subject, since then the lowest cycle
@@ -90,10 +109,10 @@ fn set_proposals(rng: &mut Random, state: &mut StateFields) {
             _ => rng.within(0, state.cycle - 1),
         });
     }
-    let ages = AGES[rng.below(AGES.len())];
+    let ages = any_ages(rng, state.notices);
     state.proposals.clear();
     for cycle in cycles {
-        let (low, high) = rng.pick(ages);
+        let (low, high) = rng.pick(&ages);
         let age = rng.within(low, high.min(state.day).max(low));
         let day = state.day.saturating_sub(age);
         let (kind, arguments) = subject(rng, state, only);
@@ -106,19 +125,23 @@ fn set_proposals(rng: &mut Random, state: &mut StateFields) {
     }
 }
 
-/// Lowest and highest ages of the proposals of a state, on the agreed day: around the 2 and the 7
-/// days of notice, none lapsed, around the day on which they lapse, all lapsed, and of every sort. The
-/// last have ages that are small when they are cut to 8 or 16 bits.
-const AGES: [&[(u32, u32)]; 8] = [
-    &[(0, 3)],
-    &[(0, 3), (4, 9), (4, 9)],
-    &[(0, 3), (4, 9), (4, 9), (0, u32::MAX)],
-    &[(0, 60)],
-    &[(4, 9), (58, 62)],
-    &[(4, 9), (61, 61), (62, 400)],
-    &[(61, 61), (62, 400), (62, u32::MAX)],
-    &[(0, 9), (60, 61), (256, 316), (65_536, 65_596)],
-];
+/// Lowest and highest ages of the proposals of a state, on the agreed day: around the days of notice,
+/// none lapsed, around the day on which they lapse, all lapsed, and of every sort. The last have ages
+/// that are small when they are cut to 8 or 16 bits.
+fn any_ages(rng: &mut Random, notices: Notices) -> Vec<(u32, u32)> {
+    let around = |notice: u32| (notice.saturating_sub(3), notice + 2);
+    let (ordinary, restart) = (around(notices.ordinary), around(notices.restart));
+    match rng.below(8) {
+        0 => vec![restart],
+        1 => vec![restart, ordinary, ordinary],
+        2 => vec![restart, ordinary, ordinary, (0, u32::MAX)],
+        3 => vec![(0, 60)],
+        4 => vec![ordinary, (58, 62)],
+        5 => vec![ordinary, (61, 61), (62, 400)],
+        6 => vec![(61, 61), (62, 400), (62, u32::MAX)],
+        _ => vec![(0, 9), (60, 61), (256, 316), (65_536, 65_596)],
+    }
+}
 
 /// A subject, of one kind only where that is given; many are those of earlier proposals.
 fn subject(rng: &mut Random, state: &StateFields, only: Option<u16>) -> (u16, [u8; SUBJECT_SIZE]) {

@@ -2,10 +2,12 @@
 
 use super::malformed;
 use super::random::Random;
+use super::settings;
 use super::starts_queries;
+use super::states;
 use crate::compare::call::History;
 use crate::compare::fields::StateFields;
-use crate::layout::{is_query, kind_of, least_size, MISSES};
+use crate::layout::{is_checkpoint, is_query, kind_of, least_size, MISSES};
 
 /// The most records of a stream: what follows damage is seldom read.
 const LONGEST: usize = 60;
@@ -13,15 +15,17 @@ const LONGEST: usize = 60;
 /// A stream of a history's records: those of one host or of all, mostly with damage; seldom one of
 /// its own around a later start.
 pub fn of_history(rng: &mut Random, history: &History) -> Vec<u8> {
-    match StateFields::read(&history.first) {
-        Some(state) if rng.chance(3) => around_start(rng, &state),
+    match (rng.below(33), StateFields::read(&history.first)) {
+        (0, Some(state)) => around_start(rng, &state),
+        (1, _) => settings::restarted(rng),
         _ => of_calls(rng, history),
     }
 }
 
 /// Queries that add misses at one door before and after a later start: together they would lock it.
 fn around_start(rng: &mut Random, state: &StateFields) -> Vec<u8> {
-    let start = [starts_queries::start(rng, state), state.write()].concat();
+    let checkpoint = states::checkpoint(rng, state);
+    let start = [starts_queries::start(rng, state), checkpoint].concat();
     let door = starts_queries::any_door(rng);
     let mut stream = Vec::new();
     for _ in 0..2 {
@@ -81,7 +85,7 @@ fn damage_record(rng: &mut Random, records: &mut Vec<Vec<u8>>) {
         }
         4 => malformed::reframe(&mut records[place], length + 1 + rng.below(6)),
         5 if length > 3 => records[place][3] = rng.pick(&[1, 255]),
-        6 if length > 3 => records[place][2] = rng.below(24) as u8,
+        6 if length > 3 => records[place][2] = any_kind(rng, records[place][2]),
         7 => {
             records.remove(place);
         }
@@ -96,13 +100,27 @@ fn damage_record(rng: &mut Random, records: &mut Vec<Vec<u8>>) {
     }
 }
 
-/// The place of a record, every other time that of a query, if there is one.
+/// The kind beside this one, or any up to the highest that has a place and beyond.
+fn any_kind(rng: &mut Random, kind: u8) -> u8 {
+    match rng.below(4) {
+        0 => kind.wrapping_add(1),
+        1 => kind.wrapping_sub(1),
+        _ => rng.below(28) as u8,
+    }
+}
+
+/// The place of a record: often that of a query, and that of a checkpoint, if there is one.
 fn any_place(rng: &mut Random, records: &[Vec<u8>]) -> usize {
-    let is_asked = |place: &usize| is_query(kind_of(&records[*place]));
-    let queries: Vec<usize> = (0..records.len()).filter(is_asked).collect();
-    match queries.len() {
-        count if count > 0 && rng.chance(50) => queries[rng.below(count)],
-        _ => rng.below(records.len()),
+    let is_sort: fn(u16) -> bool = match rng.below(20) {
+        0..=7 => is_query,
+        8..=10 => is_checkpoint,
+        _ => |_| true,
+    };
+    let is_meant = |place: &usize| is_sort(kind_of(&records[*place]));
+    let places: Vec<usize> = (0..records.len()).filter(is_meant).collect();
+    match places.len() {
+        0 => rng.below(records.len()),
+        count => places[rng.below(count)],
     }
 }
 

@@ -12,7 +12,7 @@ use super::starts_queries;
 use super::states;
 use crate::compare::call::{Records, Request};
 use crate::compare::fields::StateFields;
-use crate::layout::{kind_of, number_at, DOOR, IMAGE_SIZE, RIGHT};
+use crate::layout::{kind_of, number_at, to_old, DOOR, IMAGE_SIZE, RIGHT};
 
 /// What is done with each damaged request; an error ends the sweep.
 pub type Each<'a> = &'a mut dyn FnMut(&Request) -> Result<(), String>;
@@ -20,8 +20,8 @@ pub type Each<'a> = &'a mut dyn FnMut(&Request) -> Result<(), String>;
 /// How many bytes longer than the longest output the longest output slice is.
 const SPARE: usize = 11;
 
-/// Requests to be damaged: a start, a query of each kind, a checkpoint, a page, an export and a
-/// delivery of each kind.
+/// Requests to be damaged: a start from a checkpoint of each kind, a query of each kind, a checkpoint, a
+/// page, an export and a delivery of each kind.
 pub fn bases(rng: &mut Random) -> Vec<Request> {
     let state = states::any_state(rng);
     let own = states::any_own(rng, &state);
@@ -29,7 +29,8 @@ pub fn bases(rng: &mut Random) -> Vec<Request> {
     let (login, day) = (arguments::listed_login(rng, &state), state.day);
     let (right, door) = (rng.of(&RIGHT) as u8, rng.of(&DOOR) as u8);
     let mut bases = vec![
-        Records::Start(state.write(), start),
+        Records::Start(state.write(), start.clone()),
+        Records::Start(to_old(&state.write()), start),
         Records::Query(records::query(login, day, right)),
         Records::Query(records::door_query(login, day, right, door)),
         Records::Checkpoint,

@@ -2,8 +2,8 @@
 //! other.
 
 use super::random::Random;
-use crate::compare::fields::StateFields;
-use crate::layout::{LOGIN, MARGIN, SILENCE, TRUSTEES};
+use crate::compare::fields::{Notices, StateFields};
+use crate::layout::{Field, LOGIN, MARGIN, NAMED_NOTICES, NOTICES, SILENCE, TRUSTEES};
 
 pub fn any_life(rng: &mut Random) -> u32 {
     match rng.below(8) {
@@ -24,6 +24,34 @@ pub fn any_silence(rng: &mut Random) -> u16 {
         0 => rng.end(&SILENCE) as u16,
         1 => rng.pick(&[2, 7, 30, SILENCE.high as u16 - 1]),
         _ => rng.of(&SILENCE) as u16,
+    }
+}
+
+/// Those of document 01 and request A6 every fourth time, since a checkpoint of kind 16 has no others.
+pub fn any_notices(rng: &mut Random) -> Notices {
+    match rng.chance(25) {
+        true => Notices::OF_OLD,
+        false => Notices::new(any_notice(rng), any_notice(rng)),
+    }
+}
+
+fn any_notice(rng: &mut Random) -> u32 {
+    match rng.below(3) {
+        0 => rng.end(&NOTICES[0]),
+        _ => rng.of(&NOTICES[0]),
+    }
+}
+
+/// A notice that a minima names: none, another one, the one in force or one beside it.
+pub fn named_notice(rng: &mut Random, in_force: u32) -> u32 {
+    let Field { low, high, .. } = NAMED_NOTICES[0];
+    match rng.below(8) {
+        0 | 1 => low,
+        2 => in_force,
+        3 => rng
+            .pick(&[in_force.saturating_sub(1), in_force + 1])
+            .min(high),
+        _ => any_notice(rng),
     }
 }
 

@@ -6,10 +6,11 @@ use super::notices::Notices;
 use super::ranges::{Range, ANNOUNCED, ASKED, DATES, HEAD, OWN_MISSES, PERFORMED, RANGES};
 use super::restarts::Restarts;
 use super::rosters::Rosters;
+use super::settings::Settings;
 use crate::compare::call::{Outcome, Records, Request, CALLS, VOTED};
-use crate::compare::fields::{Login, OwnFields, Seat, StateFields};
+use crate::compare::fields::{self, Login, OwnFields, Seat, StateFields};
 use crate::layout::{self, kind_of, query_fields, BODY, CHECKPOINT, CYCLE_AND_DAY, MASKS, ROW};
-use crate::layout::{REJOIN, ROWS, ROW_SIZE, START};
+use crate::layout::{to_current, REJOIN, ROWS, ROW_SIZE, START};
 
 pub struct Coverage {
     pub calls: u64,
@@ -26,6 +27,8 @@ pub struct Coverage {
     pub restarts: Restarts,
     /// Of histories, and what is refused by 1 of all calls.
     pub doors: Doors,
+    /// The same, and accepted starts of all calls.
+    pub settings: Settings,
     pub rosters: Rosters,
 }
 
@@ -43,6 +46,7 @@ impl Coverage {
             notices: Notices::new(),
             restarts: Restarts::new(),
             doors: Doors::new(),
+            settings: Settings::new(),
             rosters: Rosters::new(),
         }
     }
@@ -60,7 +64,10 @@ impl Coverage {
         }
         // Answer 1 leaves open which record is malformed, so nothing of them counts.
         match outcome.number {
-            1 => self.doors.note_malformed(request),
+            1 => {
+                self.doors.note_malformed(request);
+                self.settings.note_malformed(request);
+            }
             _ => self.note_records(request, outcome),
         }
     }
@@ -69,6 +76,9 @@ impl Coverage {
         match &request.records {
             Records::Start(checkpoint, start) => {
                 self.note_state(checkpoint);
+                if outcome.number == 0 {
+                    self.settings.note_start(checkpoint);
+                }
                 let values = layout::values(&START, start, BODY);
                 self.meet_all(&[Range::StartSeat, Range::StartLife], &values);
                 return;
@@ -118,7 +128,8 @@ impl Coverage {
         let Some(state) = StateFields::read(checkpoint) else {
             return;
         };
-        self.meet_all(&HEAD, &layout::values(&CHECKPOINT, checkpoint, BODY));
+        let checkpoint = to_current(checkpoint);
+        self.meet_all(&HEAD, &layout::values(&CHECKPOINT, &checkpoint, BODY));
         self.meet(Range::Present, state.present() as u32);
         self.meet(Range::Proposals, state.proposals.len() as u32);
         self.meet(Range::Logins, state.logins.len() as u32);
@@ -214,6 +225,11 @@ impl Coverage {
         let subject = layout::ARGUMENTS + layout::SUBJECT_KIND.size;
         match (kind, arguments[0]) {
             (1, 4) => self.meet(Range::DoneSubjectSeat, bytes[subject]),
+            (1, 5) => {
+                let named = fields::Notices::named(&bytes[subject..]);
+                let ranges = [Range::DoneSubjectOrdinary, Range::DoneSubjectRestart];
+                self.meet_all(&ranges, &[named.ordinary, named.restart]);
+            }
             (1, 7) => {
                 let ranges = [Range::DoneSubjectRejoin, Range::DoneSubjectLife];
                 self.meet_all(&ranges, &layout::values(&REJOIN, bytes, subject));

@@ -2,8 +2,8 @@
 
 use super::door_marks::{Mark, ELEVEN, LOCKED, NINE, OPEN, PERFORMED, TENTH};
 use super::marks::Counts;
+use super::mended::is_mended;
 use crate::compare::call::{Outcome, Records, Request, VOTED};
-use crate::compare::check::second::PAPER;
 use crate::compare::fields::OwnFields;
 use crate::layout::{door_of, kind_of, number_at, DOOR, DOORS, DOOR_AT, DOOR_QUERY_KIND};
 use crate::layout::{IMAGE_SIZE, MISSES, MISSES_AT, QUERY_KIND};
@@ -131,12 +131,4 @@ fn mend_door(request: &mut Request) {
     if let Records::Query(query) = &mut request.records {
         query[DOOR_AT] = 0;
     }
-}
-
-/// Whether a request is no longer refused by 1 once this is mended.
-fn is_mended(request: &Request, mend: impl Fn(&mut Request)) -> bool {
-    let mut mended = request.clone();
-    mend(&mut mended);
-    let mut out = vec![0; mended.out];
-    PAPER.calls.make(&mended.image, &mended.records, &mut out) != 1
 }

@@ -1,24 +1,24 @@
 //! What the histories must meet of notices that lapse (request A3), also of those for a rejoin (request
-//! A6). An age is the announced day minus the proposal's.
+//! A6). An age is the announced day minus the proposal's. A notice is the one in force (request A7).
 
 use super::marks::marks;
 
 marks! {
     "notices used" {
-        Certify6 "certify after 6 days, no 10";
-        Certify7 "certify after 7 days";
+        CertifyEarly "certify a day before its notice is over, no 10";
+        CertifyFirst "certify on the day its notice is over";
         Certify60 "certify after 60 days";
         Certify61 "certify after 61 days, no 10";
-        Minima6 "minima after 6 days, no 10";
-        Minima7 "minima after 7 days";
+        MinimaEarly "minima a day before its notice is over, no 10";
+        MinimaFirst "minima on the day its notice is over";
         Minima60 "minima after 60 days";
         Minima61 "minima after 61 days, no 10";
-        Remove6 "remove after 6 days, no 10";
-        Remove7 "remove after 7 days";
+        RemoveEarly "remove a day before its notice is over, no 10";
+        RemoveFirst "remove on the day its notice is over";
         Remove60 "remove after 60 days";
         Remove61 "remove after 61 days, no 10";
-        Rejoin1 "rejoin after 1 day, no 10";
-        Rejoin2 "rejoin after 2 days";
+        RejoinEarly "rejoin a day before its notice is over, no 10";
+        RejoinFirst "rejoin on the day its notice is over";
         Rejoin60 "rejoin after 60 days";
         Rejoin61 "rejoin after 61 days, no 10";
         BehindLapsed "behind a lapsed equal one";
@@ -54,17 +54,32 @@ marks! {
     }
 }
 
-/// By kind, from 4: a use at the edges of 7, for a rejoin 2, and of 60 days.
+/// By kind, from 4: a use at the edges of its notice and of 60 days.
 pub const USED: [[Mark; 4]; 4] = [
     [
-        Mark::Certify6,
-        Mark::Certify7,
+        Mark::CertifyEarly,
+        Mark::CertifyFirst,
         Mark::Certify60,
         Mark::Certify61,
     ],
-    [Mark::Minima6, Mark::Minima7, Mark::Minima60, Mark::Minima61],
-    [Mark::Remove6, Mark::Remove7, Mark::Remove60, Mark::Remove61],
-    [Mark::Rejoin1, Mark::Rejoin2, Mark::Rejoin60, Mark::Rejoin61],
+    [
+        Mark::MinimaEarly,
+        Mark::MinimaFirst,
+        Mark::Minima60,
+        Mark::Minima61,
+    ],
+    [
+        Mark::RemoveEarly,
+        Mark::RemoveFirst,
+        Mark::Remove60,
+        Mark::Remove61,
+    ],
+    [
+        Mark::RejoinEarly,
+        Mark::RejoinFirst,
+        Mark::Rejoin60,
+        Mark::Rejoin61,
+    ],
 ];
 
 /// By kind, from 1: a performed action that drops a lapsed row.

@@ -3,7 +3,7 @@
 use super::marks::Counts;
 use super::notice_marks::{Mark, DROPPED, USED};
 use crate::compare::call::{Outcome, Records, Request, VOTED};
-use crate::compare::fields::{notice, Proposal, StateFields};
+use crate::compare::fields::{self, Proposal, StateFields};
 use crate::layout::{self, kind_of, ARGUMENTS, BODY, CYCLE_AND_DAY, PROPOSALS};
 
 pub type Notices = Counts<Mark>;
@@ -21,7 +21,7 @@ impl Notices {
         match (&request.records, outcome.number) {
             // Others leave open whether the announcement is well formed.
             (Records::Deliver(announcement, _), number @ (0 | 3..=16 | VOTED)) => {
-                self.note_delivery(&state.proposals, announcement, number);
+                self.note_delivery(&state, announcement, number);
             }
             (Records::Start(..), 0) => self.meet_if(&[(has_lapsed, Mark::Started)]),
             (Records::Query(_), 0 | 19..=21) => self.meet_if(&[(has_lapsed, Mark::Queried)]),
@@ -30,13 +30,14 @@ impl Notices {
         }
     }
 
-    fn note_delivery(&mut self, rows: &[Proposal], announcement: &[u8], number: u32) {
+    fn note_delivery(&mut self, state: &StateFields, announcement: &[u8], number: u32) {
+        let rows = &state.proposals;
         let [_, day] = layout::read(&CYCLE_AND_DAY, announcement, BODY);
         let kind = kind_of(announcement);
         match kind {
             1 => self.note_proposed(rows, day, number),
             2 => self.note_cancelled(rows, announcement, day, number),
-            4..=7 => self.note_used(rows, announcement, day, number),
+            4..=7 => self.note_used(rows, state.notices, announcement, number),
             _ => {}
         }
         if rows.iter().any(|row| row.is_lapsed(day)) {
@@ -74,13 +75,20 @@ impl Notices {
     }
 
     /// Kinds 4 to 7.
-    fn note_used(&mut self, rows: &[Proposal], announcement: &[u8], day: u32, number: u32) {
+    fn note_used(
+        &mut self,
+        rows: &[Proposal],
+        in_force: fields::Notices,
+        announcement: &[u8],
+        number: u32,
+    ) {
         let kind = kind_of(announcement);
+        let [_, day] = layout::read(&CYCLE_AND_DAY, announcement, BODY);
         let [early, first, on_60, on_61] = USED[usize::from(kind) - 4];
-        let least = i64::from(notice(kind));
+        let least = i64::from(in_force.of(kind));
         let equal = rows.iter().filter(|row| row.is_subject_of(announcement));
         let has = |age: i64| equal.clone().any(|row| row.age(day) == age);
-        let used = equal.clone().find(|row| row.is_ripe(day));
+        let used = equal.clone().find(|row| row.is_ripe(day, in_force));
         let first_lapsed = equal.clone().find(|row| row.is_lapsed(day));
         let is_behind = match (first_lapsed, used) {
             (Some(lapsed), Some(used)) => lapsed.cycle < used.cycle,

@@ -37,6 +37,8 @@ ranges! {
     Margin of(CHECKPOINT[4]), "state: margin";
     Least of(CHECKPOINT[5]), "state: least quorum";
     Silence of(CHECKPOINT[6]), "state: silence limit";
+    Ordinary of(CHECKPOINT[7]), "state: ordinary notice";
+    Restart of(CHECKPOINT[8]), "state: restart notice";
     Present (1, SEATS.most as u32), "state: present seats";
     Standing of(STANDING), "state: standing";
     Life of(HELD_LIFE), "state: life of a seat that is not free";
@@ -77,6 +79,8 @@ ranges! {
     EndedLogin argument(9, 0), "end: login";
     DonePropose of(SUBJECT_KIND), "performed propose: subject kind";
     DoneSubjectSeat argument(4, 0), "performed propose: seat to certify";
+    DoneSubjectOrdinary argument(5, 3), "performed propose: ordinary notice to be set";
+    DoneSubjectRestart argument(5, 4), "performed propose: restart notice to be set";
     DoneSubjectRejoin argument(7, 0), "performed propose: seat to rejoin";
     DoneSubjectLife argument(7, 1), "performed propose: life to rejoin under";
     DoneCancel (0, MAX - 2), "performed cancel: cycle";
@@ -87,6 +91,8 @@ ranges! {
     DoneMargin argument(5, 0), "performed minima: margin";
     DoneLeast argument(5, 1), "performed minima: least quorum";
     DoneSilence argument(5, 2), "performed minima: silence limit";
+    DoneOrdinary argument(5, 3), "performed minima: ordinary notice";
+    DoneRestart argument(5, 4), "performed minima: restart notice";
     DoneRemove argument(6, 0), "performed remove: seat";
     DoneRejoin argument(7, 0), "performed rejoin: seat";
     DoneRejoinLife (2, MAX), "performed rejoin: life";
@@ -115,7 +121,7 @@ ranges! {
 }
 
 /// The ranges of a checkpoint's fields before its tables.
-pub const HEAD: [Range; 7] = [
+pub const HEAD: [Range; 9] = [
     Range::Cycle,
     Range::Day,
     Range::Level1,
@@ -123,6 +129,8 @@ pub const HEAD: [Range; 7] = [
     Range::Margin,
     Range::Least,
     Range::Silence,
+    Range::Ordinary,
+    Range::Restart,
 ];
 
 /// By door.
@@ -163,7 +171,13 @@ pub const PERFORMED: [&[Range]; 10] = [
     &[Range::DoneCancel],
     &[Range::DonePresents, Range::DoneFlag],
     &[Range::DoneCertify, Range::DoneCertifyLife],
-    &[Range::DoneMargin, Range::DoneLeast, Range::DoneSilence],
+    &[
+        Range::DoneMargin,
+        Range::DoneLeast,
+        Range::DoneSilence,
+        Range::DoneOrdinary,
+        Range::DoneRestart,
+    ],
     &[Range::DoneRemove],
     &[Range::DoneRejoin, Range::DoneRejoinLife],
     &[

@@ -1,5 +1,5 @@
 //! What the histories must meet of proposals to rejoin (request A6), beside the days of
-//! `notice_marks`. They are ripe from 2 to 60 days.
+//! `notice_marks`. They are ripe from the restart notice in force to 60 days.
 
 use super::marks::marks;
 

@@ -114,7 +114,7 @@ impl Restarts {
         let [seat, life] = layout::read(&REJOIN, arguments, 0);
         let is_low = life <= state.seats[seat as usize].life;
         let mut ripe = rows.clone();
-        ripe.retain(|row| row.is_ripe(day));
+        ripe.retain(|row| row.is_ripe(day, state.notices));
         let mut equal = ripe.iter().filter(|row| row.is_subject_of(announcement));
         let has_ripe = equal.clone().next().is_some();
         let was_removed = equal.any(|row| self.outlived.contains(row));

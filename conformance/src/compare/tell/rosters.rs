@@ -187,7 +187,7 @@ impl Rosters {
             Action::Cancel(_) => Mark::Cancel,
             Action::Presents { .. } => Mark::Presents,
             Action::Certify { .. } => Mark::Certify,
-            Action::Minima(_) => Mark::Minima,
+            Action::Minima(..) => Mark::Minima,
             Action::Remove { .. } => Mark::Remove,
             Action::Rejoin { .. } => Mark::Rejoin,
             Action::End { .. } => Mark::End,

@@ -24,6 +24,7 @@ impl Coverage {
         let marks = self.notices.missing().into_iter();
         let marks = marks.chain(self.restarts.missing());
         let marks = marks.chain(self.doors.missing());
+        let marks = marks.chain(self.settings.missing());
         let marks = marks.chain(self.rosters.missing());
         calls.chain(kinds).chain(ends).chain(marks).collect()
     }
@@ -60,6 +61,7 @@ impl Coverage {
         lines.extend(self.notices.summary());
         lines.extend(self.restarts.summary());
         lines.extend(self.doors.summary());
+        lines.extend(self.settings.summary());
         lines.extend(self.rosters.summary());
         lines
     }

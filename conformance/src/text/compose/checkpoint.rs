@@ -3,7 +3,8 @@
 use super::words::{Lines, Parse, Words};
 use super::{push, record, subject, values};
 use crate::layout::{Table, LIFE, LOGINS, PROPOSALS, SEATS, STANDING, STANDINGS};
-use crate::layout::{CHECKPOINT, CHECKPOINT_KIND, CYCLE_AND_DAY, LOGIN};
+use crate::layout::{CHECKPOINT_KIND, CYCLE_AND_DAY, LOGIN, NOTICES};
+use crate::layout::{OLD_CHECKPOINT, OLD_CHECKPOINT_KIND};
 
 /// What the lines of a checkpoint begin with.
 pub const ROWS: &[&str] = &["seat", "proposal", "login"];
@@ -19,7 +20,7 @@ struct Rows {
 /// What follows `checkpoint`, and the lines below it: seats, proposals and logins in any order, the
 /// rows of each table as they stand.
 pub fn compose(line: &mut Words, lines: &mut Lines) -> Parse<Vec<u8>> {
-    let mut body = values(line, &CHECKPOINT)?;
+    let (kind, mut body) = head(line)?;
     line.finish()?;
     let mut rows = Rows::default();
     while let Some(mut row) = lines.next_if(|line| line.begins_with(ROWS)) {
@@ -31,7 +32,17 @@ pub fn compose(line: &mut Words, lines: &mut Lines) -> Parse<Vec<u8>> {
     }
     write(&PROPOSALS, &rows.proposals, &mut body);
     write(&LOGINS, &rows.logins, &mut body);
-    Ok(record(CHECKPOINT_KIND, &body))
+    Ok(record(kind, &body))
+}
+
+/// The kind and the fields before the seats: one that has notices has a kind of its own.
+fn head(line: &mut Words) -> Parse<(u16, Vec<u8>)> {
+    let mut fields = values(line, &OLD_CHECKPOINT)?;
+    if !line.begins_with(&[NOTICES[0].name]) {
+        return Ok((OLD_CHECKPOINT_KIND, fields));
+    }
+    fields.extend(values(line, &NOTICES)?);
+    Ok((CHECKPOINT_KIND, fields))
 }
 
 /// A row count and the rows; "Unused rows are zero."

@@ -2,11 +2,12 @@
 
 use super::words::{Lines, Parse, Place, Words};
 use super::{announcement, push, values};
-use crate::layout::{ANNOUNCEMENT_SIZE, CHECKPOINT_SIZE, DOORS, MISSES, OWN};
+use crate::layout::{ANNOUNCEMENT_SIZE, CHECKPOINT_SIZE, DOORS, MISSES, OLD_CHECKPOINT_SIZE, OWN};
 
-/// An own part comes behind the 1,108 bytes of a checkpoint, well formed or not.
+/// An own part comes behind the 1,110 bytes of a checkpoint, well formed or not. Behind the 1,108 of one
+/// of kind 16 it is written too, so that the refusal can be tried.
 pub fn require_checkpoint(place: Place, above: usize) -> Parse<()> {
-    if above == CHECKPOINT_SIZE {
+    if matches!(above, CHECKPOINT_SIZE | OLD_CHECKPOINT_SIZE) {
         return Ok(());
     }
     Err(place.error(format!(

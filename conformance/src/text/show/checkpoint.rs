@@ -2,20 +2,27 @@
 
 use super::bytes::{malformed, Bytes, Read};
 use super::records::{require_kind, require_length, subject};
-use crate::layout::{
-    size, BODY, CHECKPOINT, CHECKPOINT_KIND, CHECKPOINT_SIZE, CYCLE_AND_DAY, LOGIN,
-};
+use crate::layout::{checkpoint_fields, kind_of, least_size, size, BODY, CHECKPOINT};
 use crate::layout::{Field, Table, LIFE, LOGINS, PROPOSALS, SEATS, STANDING, STANDINGS};
+use crate::layout::{CHECKPOINT_KIND, CHECKPOINT_SIZE, CYCLE_AND_DAY, LOGIN};
 
 /// Where the margin stands: behind cycle, day and trustees.
 const MARGIN_AT: usize = BODY + size(CHECKPOINT.first_chunk::<4>().unwrap());
 
-pub fn checkpoint(bytes: &[u8]) -> Read<String> {
+/// The checkpoint of an image: of kind 26 alone.
+pub fn of_image(bytes: &[u8]) -> Read<String> {
     require_length(bytes, CHECKPOINT_SIZE - 2)?;
     require_kind(bytes, CHECKPOINT_KIND..=CHECKPOINT_KIND)?;
+    checkpoint(bytes)
+}
+
+/// A record of either kind.
+pub fn checkpoint(bytes: &[u8]) -> Read<String> {
+    let kind = kind_of(bytes);
+    require_length(bytes, least_size(kind) - 2)?;
     let mut bytes = Bytes::new(bytes, BODY);
     let mut text = "checkpoint".to_string();
-    let head = bytes.fields(&CHECKPOINT, &mut text)?;
+    let head = bytes.fields(checkpoint_fields(kind), &mut text)?;
     text += "\n";
     let present = seats(&mut bytes, &mut text)?;
     require_quorum(&head, present)?;

@@ -3,7 +3,7 @@
 use super::bytes::{malformed, Bytes, Read};
 use crate::layout::{kind_of, number_at, size, Field, ACTIONS, ANNOUNCEMENT_SIZE, ARGUMENTS_SIZE};
 use crate::layout::{BODY, CYCLE_AND_DAY, LIFE, MASKS, ROWS, ROW_COUNT, ROW_SIZE, SEAT};
-use crate::layout::{SUBJECT_KIND, SUBJECT_SIZE};
+use crate::layout::{MINIMA, MINIMA_KIND, NAMED_NOTICES, SUBJECT_KIND, SUBJECT_SIZE};
 use std::ops::RangeInclusive;
 
 pub fn require_length(bytes: &[u8], length: usize) -> Read<()> {
@@ -49,12 +49,23 @@ pub fn announcement(bytes: &[u8]) -> Read<String> {
 fn action(bytes: &mut Bytes, kind: u16, end: usize, text: &mut String) -> Read<()> {
     let (name, fields) = ACTIONS[kind as usize - 1];
     *text += &format!(" {name}");
-    if kind == 1 {
-        subject(bytes, text)?;
-    } else {
-        bytes.fields(fields, text)?;
+    match kind {
+        1 => subject(bytes, text)?,
+        MINIMA_KIND => minima(bytes, text)?,
+        _ => drop(bytes.fields(fields, text)?),
     }
     bytes.unused(end)
+}
+
+/// The notices are shown where one of them is not zero.
+fn minima(bytes: &mut Bytes, text: &mut String) -> Read<()> {
+    bytes.fields(&MINIMA, text)?;
+    let at = bytes.at;
+    if bytes.number(size(&NAMED_NOTICES))? != 0 {
+        bytes.at = at;
+        bytes.fields(&NAMED_NOTICES, text)?;
+    }
+    Ok(())
 }
 
 /// "subject kind 2 (4, 5 or 6), its first 8 argument bytes", or 7 (request A6).

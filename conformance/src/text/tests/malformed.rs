@@ -29,6 +29,16 @@ announce cycle 1 day 2 minima m 0 k 33 S 30
   k 33 is not in 1 to 32, at byte 13
 announce cycle 1 day 2 minima m 0 k 1 S 366
   S 366 is not in 1 to 365, at byte 14
+announce cycle 1 day 2 minima m 0 k 1 S 30 ordinary 31 restart 0
+  ordinary 31 is not in 0 to 30, at byte 16
+announce cycle 1 day 2 minima m 0 k 1 S 30 ordinary 30 restart 31
+  restart 31 is not in 0 to 30, at byte 17
+announce cycle 1 day 2 minima m 0 k 1 S 30 ordinary 0 restart 255
+  restart 255 is not in 0 to 30, at byte 17
+announce cycle 1 day 2 propose minima m 0 k 1 S 30 ordinary 31 restart 1
+  ordinary 31 is not in 0 to 30, at byte 18
+announce cycle 1 day 2 propose minima m 0 k 1 S 30 ordinary 1 restart 31
+  restart 31 is not in 0 to 30, at byte 19
 announce cycle 1 day 2 remove seat 255
   seat 255 is not in 0 to 31, at byte 12
 announce cycle 1 day 2 rejoin seat 32 life 0
@@ -73,6 +83,10 @@ bytes 05 00 12 00 01 00 41
   row count 65 is not in 0 to 64, at byte 6
 bytes 16 00 09 00 01 00 00 00 01 00 00 00 05 00 00 00 00 00 00 00 00 00 00 07
   the unused byte is 07, not 00, at byte 23
+bytes 16 00 05 00 01 00 00 00 01 00 00 00 00 01 1e 00 05 05 01 00 00 00 00 00
+  the unused byte is 01, not 00, at byte 18
+bytes 16 00 01 00 01 00 00 00 01 00 00 00 05 00 00 01 1e 00 05 05 00 01 00 00
+  the unused byte is 01, not 00, at byte 21
 bytes 16 00 01 00 01 00 00 00 01 00 00 00 06 00 05 07 00 00 00 00 00 00 00 00
   the unused byte is 07, not 00, at byte 15
 bytes 16 00 01 00 01 00 00 00 01 00 00 00 07 00 05 07 00 00 00 01 00 00 00 00
@@ -141,34 +155,38 @@ fn the_place_in_the_input() {
 /// What is added to a checkpoint of cycle 1, day 100 and three present seats.
 const ROWS: &str = "\
 seat 3 standing 4 life 1
-  standing 4 is not in 0 to 3, at byte 33
+  standing 4 is not in 0 to 3, at byte 35
 seat 3 free life 5
-  seat 3 is free with life 5, at byte 34
+  seat 3 is free with life 5, at byte 36
 seat 3 retired life 0
-  seat 3 is retired with life 0, at byte 34
+  seat 3 is retired with life 0, at byte 36
 proposal cycle 1 day 90 remove seat 2
-  proposal cycle 1 is not below cycle 1, at byte 179
+  proposal cycle 1 is not below cycle 1, at byte 181
 proposal cycle 0 day 101 remove seat 2
-  proposal day 101 is after day 100, at byte 183
+  proposal day 101 is after day 100, at byte 185
 proposal cycle 0 day 9 remove seat 2 / proposal cycle 0 day 9 remove seat 2
-  proposals do not rise at cycle 0, at byte 197
+  proposals do not rise at cycle 0, at byte 199
 proposal cycle 0 day 9 cancel cycle 2
-  subject kind 2 is not 4, 5, 6 or 7, at byte 187
+  subject kind 2 is not 4, 5, 6 or 7, at byte 189
 proposal cycle 0 day 9 rejoin seat 32 life 0
-  seat 32 is not in 0 to 31, at byte 189
+  seat 32 is not in 0 to 31, at byte 191
 proposal cycle 0 day 9 minima m 0 k 1 S 0
-  S 0 is not in 1 to 365, at byte 191
+  S 0 is not in 1 to 365, at byte 193
+proposal cycle 0 day 9 minima m 0 k 1 S 1 ordinary 31 restart 2
+  ordinary 31 is not in 0 to 30, at byte 195
+proposal cycle 0 day 9 minima m 0 k 1 S 1 ordinary 0 restart 31
+  restart 31 is not in 0 to 30, at byte 196
 login 0 end 9 rights 1
-  login 0 is below 1, at byte 468
+  login 0 is below 1, at byte 470
 login 5 end 9 rights
-  rights name none, at byte 476
+  rights name none, at byte 478
 login 5 end 9 rights 1 / login 5 end 9 rights 1
-  login 5 does not rise above 5, at byte 478
+  login 5 does not rise above 5, at byte 480
 ";
 
 /// Bytes of that checkpoint, set to another value.
 const BYTES: &[(usize, u8, &str)] = &[
-    (0, 0x51, "length 1105 is not 1106, at byte 0"),
+    (0, 0x53, "length 1107 is not 1108, at byte 0"),
     (4, 0, "cycle 0 is below 1, at byte 4"),
     (12, 0, "trustees 0 is not in 1 to 8, at byte 12"),
     (13, 9, "trustees 9 is not in 1 to 8, at byte 13"),
@@ -182,10 +200,14 @@ const BYTES: &[(usize, u8, &str)] = &[
         2,
         "the quorum 4 is above the 3 present seats, at byte 14",
     ),
-    (178, 17, "proposal count 17 is not in 0 to 16, at byte 178"),
-    (180, 5, "the unused byte is 05, not 00, at byte 180"),
-    (467, 65, "login count 65 is not in 0 to 64, at byte 467"),
-    (1107, 255, "the unused byte is ff, not 00, at byte 1107"),
+    (18, 0, "ordinary 0 is not in 1 to 30, at byte 18"),
+    (18, 31, "ordinary 31 is not in 1 to 30, at byte 18"),
+    (19, 0, "restart 0 is not in 1 to 30, at byte 19"),
+    (19, 31, "restart 31 is not in 1 to 30, at byte 19"),
+    (180, 17, "proposal count 17 is not in 0 to 16, at byte 180"),
+    (182, 5, "the unused byte is 05, not 00, at byte 182"),
+    (469, 65, "login count 65 is not in 0 to 64, at byte 469"),
+    (1109, 255, "the unused byte is ff, not 00, at byte 1109"),
 ];
 
 #[test]

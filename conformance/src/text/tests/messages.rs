@@ -54,6 +54,12 @@ announce cycle 1 day 2 grant login 5 end 6 rights 0,3
   51: `0,3` is not understood: a number (rights) is expected
 announce cycle 1 day 2 minima m 0 k 1 S 65536
   41: S 65536 does not fit: 0 to 65535
+announce cycle 1 day 2 minima m 0 k 1 S 30 ordinary 256 restart 0
+  53: ordinary 256 does not fit: 0 to 255
+announce cycle 1 day 2 minima m 0 k 1 S 30 ordinary 5
+  54: the line ends: `restart` is expected
+announce cycle 1 day 2 minima m 0 k 1 S 30 restart 5
+  44: `restart` is not understood: the end of the line is expected
 announce cycle 1 day 2 propose
   31: the line ends: certify, minima, remove or rejoin is expected
 announce cycle 1 day 2 propose grant login 5 end 6 rights 0
@@ -98,8 +104,14 @@ end login 5
   1: `end` is an action: `announce cycle .. day ..` comes first
 checkpoint cycle 1 day 100 trustees 1 m 0 k 2 S 30
   39: `m` is not understood: a number (trustees) is expected
+checkpoint cycle 1 day 100 trustees 1 1 m 0 k 2 S 30 ordinary 7
+  64: the line ends: `restart` is expected
+checkpoint cycle 1 day 100 trustees 1 1 m 0 k 2 S 30 restart 2
+  54: `restart` is not understood: the end of the line is expected
+checkpoint cycle 1 day 100 trustees 1 1 m 0 k 2 S 30 ordinary 7 restart 256
+  73: restart 256 does not fit: 0 to 255
 own seat 0 life 1 misses 0
-  1: `own` makes an image of one checkpoint (1108 bytes) above it: 0 bytes are above it
+  1: `own` makes an image of one checkpoint (1110 bytes) above it: 0 bytes are above it
 ";
 
 #[test]
@@ -147,7 +159,7 @@ own seat 0 life 1 misses 0 / voted start
 own seat 0 life 1 misses 0 /  / start seat 0 life 1
   7:1: an image ends with its own part
 start seat 0 life 1 /  own seat 0 life 1 misses 0
-  6:2: `own` makes an image of one checkpoint (1108 bytes) above it: 1117 bytes are above it
+  6:2: `own` makes an image of one checkpoint (1110 bytes) above it: 1119 bytes are above it
 ";
 
 #[test]

@@ -6,7 +6,7 @@ use crate::compare::fields::StateFields;
 use crate::compare::make::random::Random;
 use crate::compare::make::sheets::{any_aim, sheet};
 use crate::compare::make::{announcements, malformed, records as made, starts_queries, states};
-use crate::layout::{framed, DOOR, RIGHT};
+use crate::layout::{framed, to_old, DOOR, RIGHT};
 use crate::paper::Node;
 use crate::text::show_image;
 use crate::text::warnings::refusal;
@@ -40,6 +40,7 @@ fn records(rng: &mut Random, state: &StateFields) -> Vec<Vec<u8>> {
             rng.of(&RIGHT) as u8,
             rng.of(&DOOR) as u8,
         ),
+        to_old(&state.write()),
     ]
 }
 
@@ -78,6 +79,30 @@ fn proposals_to_rejoin() {
     }
 }
 
+/// Notices that are named, kept and left out, in both kinds of a checkpoint; both bytes of the last
+/// minima are zero.
+#[test]
+fn notices() {
+    for notices in ["", " ordinary 1 restart 30"] {
+        let text = format!(
+            "announce cycle 1 day 2 minima m 0 k 1 S 30 ordinary 30 restart 1\n\
+            announce cycle 1 day 2 propose minima m 0 k 1 S 30 ordinary 0 restart 30\n\
+            announce cycle 1 day 2 minima m 0 k 1 S 30\n\
+            checkpoint cycle 4 day 100 trustees 1 1 m 0 k 1 S 30{notices}\n  seat 0 present life 1\n  \
+            proposal cycle 2 day 98 minima m 0 k 1 S 30 ordinary 5 restart 0\n  \
+            proposal cycle 3 day 98 minima m 0 k 1 S 30\n"
+        );
+        let bytes = compose(&text).unwrap();
+        assert!(all_read_by_paper(&bytes));
+        check(&bytes, true);
+        assert_eq!(show(&bytes).text, text);
+        let size = if notices.is_empty() { 1108 } else { 1110 };
+        assert_eq!(bytes.len(), 3 * 24 + size);
+    }
+    let named = compose("announce cycle 1 day 2 minima m 0 k 1 S 30 ordinary 0 restart 0");
+    assert_eq!(named, compose("announce cycle 1 day 2 minima m 0 k 1 S 30"));
+}
+
 #[test]
 fn damaged_records() {
     let mut rng = Random::new(2);
@@ -89,6 +114,7 @@ fn damaged_records() {
         match place {
             1 => records[1] = malformed::checkpoint(&mut rng, &state),
             3 => malformed::sheet(&mut rng, &mut records[3]),
+            6 => records[6] = to_old(&malformed::checkpoint(&mut rng, &state)),
             _ => malformed::bytes(&mut rng, &mut records[place]),
         }
         let alone = all_read_by_paper(&records[place]);

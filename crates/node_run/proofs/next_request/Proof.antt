@@ -62,7 +62,7 @@ flush-requires-2 : tie.Need-flush-requires-2
 flush-requires-2 c κs = search needs
 
 shift-requires : tie.Need-shift-requires
-shift-requires c κs = search needs
+shift-requires c κs = search (needs, c .before .before .before .before .before .before .before .before .before .pre .0)
 
 sub-read-request : tie.Need-sub-read-request
 sub-read-request c = search needs

@@ -1,26 +1,14 @@
 use Rattle.binary.proofs.Slices.{part-from}
-use Rattle.checkpoint.specs.Layout.{seatsAt, proposalsAt, loginsAt}
+use Rattle.checkpoint.specs.Layout.{proposalsAt, loginsAt}
 use denote.Ref.{now}
 use Rattle.checkpoint.specs.Code.{isBody}
-use Rattle.checkpoint.proofs.Fields.{decoded-at}
+use Rattle.checkpoint.proofs.Fields.{parts-at}
 use borrow.Author.Needs.{needs}
 use Rattle.checkpoint.proofs.check.is_body.Statement.{statement}
 use Rattle.checkpoint.proofs.check.is_body.Tie as tie
 
-head-in-requires : tie.Need-head-in-requires
-head-in-requires c κs = search needs
-
 is-well-formed-requires : tie.Need-is-well-formed-requires
 is-well-formed-requires c κs = search needs
-
-sub-are-seats : tie.Need-sub-are-seats
-sub-are-seats c = search needs
-
-part-are-seats-start : tie.Need-part-are-seats-start
-part-are-seats-start c = search needs
-
-part-are-seats-end : tie.Need-part-are-seats-end
-part-are-seats-end c = search needs
 
 are-seats-requires : tie.Need-are-seats-requires
 are-seats-requires c κs = search needs
@@ -60,17 +48,15 @@ unfolding isBody
 returns c =
     let proposals = c .before .before .before in
     let seats = proposals .before .before .before in
-    let numbers = seats .before .before in
-    let head = numbers .before .before .before .before in
-    let b = now (head .before .before .args .b) in
+    let numbers = seats .before in
+    let a = numbers .before .before .before .before .before .args in
+    let b = now (a .b) in
     rw (
-      decoded-at b,
+      parts-at (a .head) b,
       numbers .is-well-formed .ensures,
       seats .are-seats .ensures,
       proposals .are-proposals .ensures,
       c .are-logins .ensures,
-      head .head-in .ensures,
-      part-from seatsAt b,
       part-from proposalsAt b,
       part-from loginsAt b,
     )
@@ -79,11 +65,7 @@ pub is-body-spec : {M : Type 1} → statement M
 is-body-spec =
     tie.close
     (tie.spec
-    head-in-requires
     is-well-formed-requires
-    sub-are-seats
-    part-are-seats-start
-    part-are-seats-end
     are-seats-requires
     shared-slice-read-are-proposals
     sub-are-proposals

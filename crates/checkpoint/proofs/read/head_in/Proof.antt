@@ -4,17 +4,17 @@ use borrow.Author.Needs.{needs}
 use Rattle.checkpoint.proofs.read.head_in.Statement.{statement}
 use Rattle.checkpoint.proofs.read.head_in.Tie as tie
 
-add-t3 : tie.Need-add-t3
-add-t3 c = search needs
+add-t4 : tie.Need-add-t4
+add-t4 c = search needs
 
-shared-slice-read-t5 : tie.Need-shared-slice-read-t5
-shared-slice-read-t5 c = search needs
+shared-slice-read-t6 : tie.Need-shared-slice-read-t6
+shared-slice-read-t6 c = search needs
 
-add-t6 : tie.Need-add-t6
-add-t6 c = search needs
+add-t7 : tie.Need-add-t7
+add-t7 c = search needs
 
-shared-slice-read-t8 : tie.Need-shared-slice-read-t8
-shared-slice-read-t8 c = search needs
+shared-slice-read-t9 : tie.Need-shared-slice-read-t9
+shared-slice-read-t9 c = search needs
 
 add-u16-at : tie.Need-add-u16-at
 add-u16-at c = search needs
@@ -31,25 +31,26 @@ add-u32-at c = search needs
 u32-at-requires-2 : tie.Need-u32-at-requires-2
 u32-at-requires-2 c κs = search needs
 
-add-t10 : tie.Need-add-t10
-add-t10 c = search needs
+add-t11 : tie.Need-add-t11
+add-t11 c = search needs
 
-shared-slice-read-t5-2 : tie.Need-shared-slice-read-t5-2
-shared-slice-read-t5-2 c = search needs
+shared-slice-read-t6-2 : tie.Need-shared-slice-read-t6-2
+shared-slice-read-t6-2 c = search needs
 
-add-t6-2 : tie.Need-add-t6-2
-add-t6-2 c = search needs
+add-t7-2 : tie.Need-add-t7-2
+add-t7-2 c = search needs
 
-shared-slice-read-t8-2 : tie.Need-shared-slice-read-t8-2
-shared-slice-read-t8-2 c = search needs
+shared-slice-read-t9-2 : tie.Need-shared-slice-read-t9-2
+shared-slice-read-t9-2 c = search needs
 
 returns : tie.Need-returns
 returns c =
     let day = c .before .before in
     let cycle = day .before in
     let silence = cycle .before in
+    let a = silence .before .before .before .before .args in
     rw (
-      head-at (now (silence .before .before .before .before .args .b)),
+      head-at (now (a .b)) (a .notices),
       ← cycle .u32-at .ensures,
       ← day .u32-at2 .ensures,
       ← silence .u16-at .ensures,
@@ -59,17 +60,17 @@ pub head-in-spec : {M : Type 1} → statement M
 head-in-spec =
     tie.close
     (tie.spec
-    add-t3
-    shared-slice-read-t5
-    add-t6
-    shared-slice-read-t8
+    add-t4
+    shared-slice-read-t6
+    add-t7
+    shared-slice-read-t9
     add-u16-at
     u16-at-requires
     u32-at-requires
     add-u32-at
     u32-at-requires-2
-    add-t10
-    shared-slice-read-t5-2
-    add-t6-2
-    shared-slice-read-t8-2
+    add-t11
+    shared-slice-read-t6-2
+    add-t7-2
+    shared-slice-read-t9-2
     returns)

@@ -37,22 +37,35 @@ add-put-u16 c = search needs
 put-u16-requires : tie.Need-put-u16-requires
 put-u16-requires c κs = search needs
 
+put-u8-requires-5 : tie.Need-put-u8-requires-5
+put-u8-requires-5 c κs = search needs
+
+add-put-u8-5 : tie.Need-add-put-u8-5
+add-put-u8-5 c = search needs
+
+put-u8-requires-6 : tie.Need-put-u8-requires-6
+put-u8-requires-6 c κs = search needs
+
 same-length : tie.Need-same-length
 same-length c = search needs
 
 returns : tie.Need-returns
 unfolding toBytes parameterBytes
 returns c =
-    let silence = c .before .before in
+    let restart = c .before .before in
+    let ordinary = restart .before .before .before .before in
+    let silence = ordinary .before .before .before .before in
     let least = silence .before .before .before .before in
     let margin = least .before .before .before .before in
     let two = margin .before .before .before .before in
     let one = two .before .before .before .before in
-    then-put _ _ _ _ _ _ _ (silence .put-u16 .ensures)
+    then-put _ _ _ _ _ _ _ (restart .put-u86 .ensures)
+    (then-put _ _ _ _ _ _ _ (ordinary .put-u85 .ensures)
+    (then-put _ _ _ _ _ _ _ (silence .put-u16 .ensures)
     (then-put _ _ _ _ _ _ _ (least .put-u84 .ensures)
     (then-put _ _ _ _ _ _ _ (margin .put-u83 .ensures)
     (then-put _ _ _ _ _ _ _ (two .put-u82 .ensures)
-    (one .put-u8 .ensures) refl (omega arith)) refl (omega arith)) refl (omega arith)) refl (omega arith)
+    (one .put-u8 .ensures) refl (omega arith)) refl (omega arith)) refl (omega arith)) refl (omega arith)) refl (omega arith)) refl (omega arith)
 
 pub put-parameters-spec : {M : Type 1} → statement M
 put-parameters-spec =
@@ -68,5 +81,8 @@ put-parameters-spec =
     put-u8-requires-4
     add-put-u16
     put-u16-requires
+    put-u8-requires-5
+    add-put-u8-5
+    put-u8-requires-6
     same-length
     returns)

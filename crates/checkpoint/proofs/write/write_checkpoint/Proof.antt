@@ -3,7 +3,7 @@ use native.Mathlib.Omega.{arith}
 use denote.Ref.{now}
 use Rattle.binary.specs.Splice.{splice}
 use Rattle.binary.proofs.Splices.{then-put, first-put, next-put, splice-overwrite}
-use Rattle.checkpoint.specs.Layout.{seatsAt}
+use Rattle.checkpoint.specs.Layout.{tablesAt}
 use Rattle.checkpoint.specs.Code.{parametersAt}
 use Rattle.checkpoint.proofs.Written.{time-size, parameter-size, parts-joined}
 use borrow.Author.Needs.{needs}
@@ -31,8 +31,8 @@ returns c =
     let a = minima .before .before .before .before .before .args in
     let d = now (a .out) in
     let w₁ = first-put d _ _ 0 parametersAt (time .put-time .ensures) (time-size (a .s .cycle) (a .s .day)) in
-    let w₂ = next-put d _ _ _ _ 0 parametersAt 6 w₁ (parameters .put-parameters .ensures) (parameter-size _ _ _) (omega arith) in
-    then-put d _ _ _ _ 0 seatsAt (tables .put-tables .ensures) (w₂ .is) (w₂ .ends) (omega arith)
+    let w₂ = next-put d _ _ _ _ 0 parametersAt 8 w₁ (parameters .put-parameters .ensures) (parameter-size _ _ _) (omega arith) in
+    then-put d _ _ _ _ 0 tablesAt (tables .put-tables .ensures) (w₂ .is) (w₂ .ends) (omega arith)
     ∙ ap (splice d 0) (parts-joined (a .s)) ∙ splice-overwrite d _
 
 pub write-checkpoint-spec : {M : Type 1} → statement M

@@ -13,17 +13,17 @@ returns : tie.Need-returns
 unfolding isImage
 returns c = rw (ne-eqb _ _ (c .if1 .taken))
 
-sub-is-checkpoint : tie.Need-sub-is-checkpoint
-sub-is-checkpoint c = search needs
+sub-is-current : tie.Need-sub-is-current
+sub-is-current c = search needs
 
-part-is-checkpoint-start : tie.Need-part-is-checkpoint-start
-part-is-checkpoint-start c = search needs
+part-is-current-start : tie.Need-part-is-current-start
+part-is-current-start c = search needs
 
-part-is-checkpoint-end : tie.Need-part-is-checkpoint-end
-part-is-checkpoint-end c = search needs
+part-is-current-end : tie.Need-part-is-current-end
+part-is-current-end c = search needs
 
-is-checkpoint-requires : tie.Need-is-checkpoint-requires
-is-checkpoint-requires c κs = search needs
+is-current-requires : tie.Need-is-current-requires
+is-current-requires c κs = search needs
 
 is-well-formed-own-requires : tie.Need-is-well-formed-own-requires
 is-well-formed-own-requires c κs = search needs
@@ -45,24 +45,24 @@ returns-2 c =
     let t = o .before in
     let k = t .before in
     let l = k .before .before in
-    sym (image-tested (now (l .before .before .args .b)) _ _ (l .if1 .left) (sym (k .is-checkpoint .ensures) ∙ t .if2 .taken)
+    sym (image-tested (now (l .before .before .args .b)) _ _ (l .if1 .left) (sym (k .is-current .ensures) ∙ t .if2 .taken)
     (o .is-well-formed-own .ensures) (c .are-in-range .ensures ∙ ap areInRange (m .counts-in .ensures)))
 
 returns-3 : tie.Need-returns-3
 unfolding isImage
 returns-3 c =
     let k = c .before in
-    rw (eq-eqb _ imageSize (k .before .before .if1 .left), sym (k .is-checkpoint .ensures) ∙ c .if2 .left)
+    rw (eq-eqb _ imageSize (k .before .before .if1 .left), sym (k .is-current .ensures) ∙ c .if2 .left)
 
 pub is-image-spec : {M : Type 1} → statement M
 is-image-spec =
     tie.close
     (tie.spec
     returns
-    sub-is-checkpoint
-    part-is-checkpoint-start
-    part-is-checkpoint-end
-    is-checkpoint-requires
+    sub-is-current
+    part-is-current-start
+    part-is-current-end
+    is-current-requires
     is-well-formed-own-requires
     counts-in-requires
     shared-slice-read-result

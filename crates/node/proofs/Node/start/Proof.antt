@@ -1,8 +1,6 @@
 use mathlib.Core.Path.{sym, _∙_}
-use native.Mathlib.Omega.{arith}
 use denote.Ref.{now}
-use Rattle.checkpoint.specs.Checkpoint.{readCheckpoint}
-use Rattle.checkpoint.proofs.Fields.{accepted-size}
+use Rattle.checkpoint.proofs.Fields.{read-ok}
 use Rattle.node.specs.Start.{startOf}
 use borrow.Author.Needs.{needs}
 use Rattle.node.proofs.Node.start.Statement.{statement}
@@ -31,15 +29,13 @@ is-checkpoint-requires c κs = search needs
 
 state-in-requires : tie.Need-state-in-requires
 state-in-requires c κs =
-    let tested = c .before in
-    let a = tested .before .before .before .before .before .before .before .args in
-    omega (arith, accepted-size (now (a .checkpoint)) (sym (tested .is-checkpoint .ensures) ∙ c .if1 .taken))
+    sym (c .before .is-checkpoint .ensures) ∙ c .if1 .taken
 
 start-read-requires : tie.Need-start-read-requires
 start-read-requires c κs = search needs
 
 returns-2 : tie.Need-returns-2
-unfolding startOf readCheckpoint
+unfolding startOf
 returns-2 c =
     let accepted = c .before .before in
     let tested = accepted .before in
@@ -47,6 +43,7 @@ returns-2 c =
     rw (
       ← told .before .before .read-start .ensures,
       told .read .given .1,
+      read-ok (now (told .before .before .before .before .before .args .checkpoint)),
       ← tested .is-checkpoint .ensures,
       accepted .if1 .taken,
       ← c .before .state-in .ensures,
@@ -57,7 +54,7 @@ refuse-start-requires-2 : tie.Need-refuse-start-requires-2
 refuse-start-requires-2 c κs = search needs
 
 returns-3 : tie.Need-returns-3
-unfolding startOf readCheckpoint
+unfolding startOf
 returns-3 c =
     let refused = c .before in
     let tested = refused .before in
@@ -65,6 +62,7 @@ returns-3 c =
     rw (
       ← told .before .before .read-start .ensures,
       told .read .given .1,
+      read-ok (now (told .before .before .before .before .before .args .checkpoint)),
       ← tested .is-checkpoint .ensures,
       refused .if1 .left,
     )

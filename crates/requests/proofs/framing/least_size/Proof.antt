@@ -34,9 +34,13 @@ returns-6 c = rw (c .match .keys5) (search needs)
 
 returns-7 : tie.Need-returns-7
 unfolding leastSize
-returns-7 c = rw (sym (c .before .before .is-announcement .ensures) ∙ c .before .if1 .left) (search cases)
+returns-7 c = rw (c .match .keys6) (search needs)
+
+returns-8 : tie.Need-returns-8
+unfolding leastSize
+returns-8 c = rw (sym (c .before .before .is-announcement .ensures) ∙ c .before .if1 .left) (search cases)
 
 pub least-size-spec : {M : Type 1} → statement M
 least-size-spec =
     tie.close
-    (tie.spec is-announcement-requires returns returns-2 returns-3 returns-4 returns-5 returns-6 returns-7)
+    (tie.spec is-announcement-requires returns returns-2 returns-3 returns-4 returns-5 returns-6 returns-7 returns-8)

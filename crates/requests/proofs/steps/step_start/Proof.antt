@@ -1,7 +1,7 @@
 use denote.Ref.{now}
 use native.Mathlib.Nat.{sub-zero}
 use native.Mathlib.Omega.{arith}
-use borrow.Author.Tests.{eq-eqb, ne-eqb}
+use borrow.Author.Tests.{not-true, not-false}
 use mathlib.Core.Path.{refl, sym, _∙_}
 use Rattle.binary.proofs.Slices.{part-from}
 use Rattle.requests.proofs.Frames.{frame-fits, second-fits}
@@ -37,14 +37,19 @@ returns c =
     let framed = c .before .before .before in
     rw (c .cut .ensures, sym (rw part-from at (framed .frame .ensures)) ∙ c .before .enum-told .given .1) refl
 
+is-checkpoint-kind-requires : tie.Need-is-checkpoint-kind-requires
+is-checkpoint-kind-requires c κs = search needs
+
 cut-requires-2 : tie.Need-cut-requires-2
 cut-requires-2 c κs = search needs
 
 returns-2 : tie.Need-returns-2
 unfolding stepStart
 returns-2 c =
-    let b = c .before .before .before in
-    rw (c .cut2 .ensures, sym (rw part-from at (b .before .before .frame .ensures)) ∙ b .second .given .1, ne-eqb _ _ (c .before .if1 .taken)) refl
+    let tested = c .before .before in
+    let b = tested .before .before in
+    let other = sym (tested .is-checkpoint-kind .ensures) ∙ not-true _ (c .before .if1 .taken) in
+    rw (c .cut2 .ensures, sym (rw part-from at (b .before .before .frame .ensures)) ∙ b .second .given .1, other) refl
 
 sub-start : tie.Need-sub-start
 sub-start c = search needs
@@ -54,8 +59,8 @@ part-start-start c = search needs
 
 part-start-end : tie.Need-part-start-end
 part-start-end c =
-    let framed = c .before .before .before .before in
-    frame-fits _ _ _ (sym (framed .frame .ensures) ∙ c .before .before .second .given .1)
+    let b = c .before .before .before in
+    frame-fits _ _ _ (sym (b .before .before .frame .ensures) ∙ b .second .given .1)
 
 sub-start-2 : tie.Need-sub-start-2
 sub-start-2 c = search needs
@@ -71,8 +76,8 @@ start-requires c κs = search needs
 
 add-after-start : tie.Need-add-after-start
 add-after-start c =
-    let s = c .before .before .before .before .before .before .before .before .before .before in
-    let b = c .before .before .before .before .before in
+    let b = c .before .before .before .before .before .before in
+    let s = b .before .before .before .before .before in
     let second = sym (rw part-from at (b .before .before .frame .ensures)) ∙ b .second .given .1 in
     let h = second-fits (now (s .args .b)) (s .args .first) _ _ (s .pre) second in
     omega arith
@@ -85,9 +90,9 @@ unfolding stepStart
 returns-3 c =
     let branch = c .before .before .before .before in
     let e = rw (sub-zero, sub-zero, part-from) at (c .before .start .ensures) in
-    let b = c .before .before .before .before .before .before in
+    let b = branch .before .before .before in
     let second = sym (rw part-from at (b .before .before .frame .ensures)) ∙ b .second .given .1 in
-    rw (second, eq-eqb _ _ (branch .if1 .left), ← e) (c .after-start .ensures)
+    rw (second, sym (branch .before .is-checkpoint-kind .ensures) ∙ not-false _ (branch .if1 .left), ← e) (c .after-start .ensures)
 
 pub step-start-spec : {M : Type 1} → statement M
 step-start-spec =
@@ -101,6 +106,7 @@ step-start-spec =
     enum-told
     cut-requires
     returns
+    is-checkpoint-kind-requires
     cut-requires-2
     returns-2
     sub-start

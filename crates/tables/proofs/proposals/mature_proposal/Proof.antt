@@ -11,11 +11,11 @@ use Rattle.tables.proofs.proposals.mature_proposal.Statement.{statement
 use Rattle.tables.proofs.proposals.mature_proposal.Tie as tie
 
 abbrev Inv-loop : tie.InvT-loop
-Inv-loop subject announced rows i₀ i = first (isMature subject announced) noProposal rows ≡ first (isMature subject announced) noProposal
-    (drop i rows)
+Inv-loop notices subject announced rows i₀ i =
+    first (isMature notices subject announced) noProposal rows ≡ first (isMature notices subject announced) noProposal (drop i rows)
 
 abbrev μ-loop : tie.MeasureT-loop
-μ-loop subject announced rows i₀ i = proposalRows - i
+μ-loop notices subject announced rows i₀ i = proposalRows - i
 
 loop-holds : tie.Need-loop-holds Inv-loop μ-loop
 loop-holds c = refl
@@ -34,7 +34,7 @@ unfolding matureProposal
 returns c =
     let b = c .before .before .before .before in
     let h : b .loop .i < length (b .before .args .t1) = search needs in
-    sym (b .loop .inv ∙ first-pass (isMature (b .before .args .subject) (b .before .args .announced)) (b .before .args .t1)
+    sym (b .loop .inv ∙ first-pass (isMature (b .before .args .notices) (b .before .args .subject) (b .before .args .announced)) (b .before .args .t1)
     (b .loop .i) _ h noProposal (sym (c .before .is-mature .ensures) ∙ c .if1 .taken))
 
 add-i : tie.Need-add-i Inv-loop μ-loop
@@ -47,14 +47,14 @@ loop-again : tie.Need-loop-again Inv-loop μ-loop
 loop-again c =
     let b = c .before .before .before .before in
     let h : b .loop .i < length (b .before .args .t1) = search needs in
-    b .loop .inv ∙ first-fail (isMature (b .before .args .subject) (b .before .args .announced)) (b .before .args .t1) (b .loop .i) _ h noProposal
+    b .loop .inv ∙ first-fail (isMature (b .before .args .notices) (b .before .args .subject) (b .before .args .announced)) (b .before .args .t1) (b .loop .i) _ h noProposal
     (sym (c .before .is-mature .ensures) ∙ c .if1 .left)
 
 returns-2 : tie.Need-returns-2 Inv-loop μ-loop
 unfolding matureProposal
 returns-2 c =
     let h : length (c .before .before .args .t1) ≤ c .before .loop .i = search needs in
-    sym (c .before .loop .inv ∙ first-end (isMature (c .before .before .args .subject) (c .before .before .args .announced))
+    sym (c .before .loop .inv ∙ first-end (isMature (c .before .before .args .notices) (c .before .before .args .subject) (c .before .before .args .announced))
     (c .before .before .args .t1) (c .before .loop .i) h noProposal)
 
 pub mature-proposal-spec : {M : Type 1} → statement M

@@ -1,7 +1,8 @@
 /* How firmware uses the node: three hubs are commissioned, grant a login by vote, answer queries
  * and end the login again; wrong entries lock one door of a hub and not the other; one hub is lost
  * and comes back from a checkpoint, under a new life, which votes once the park has voted a rejoin,
- * two days after its proposal; the park sets notices of its own.
+ * two days after its proposal; the park sets notices of its own; the list fills up, and a grant takes
+ * the row of a login that is over.
  *
  * The radio and the seal module are played by this program: what a hub votes for is put on the next
  * sheet as a row.
@@ -13,6 +14,9 @@
 #include <string.h>
 
 enum { HUBS = 3, RIGHT = 0, LOGIN = 501, WRONG_LOGIN = 105, PRESENT = 2, MOST_MISSES = 10 };
+
+/* The logins of a season, numbered from SEASON on; with LOGIN they fill the list. */
+enum { SEASON = 601, SEASON_LOGINS = ACCESS_NODE_MOST_LOGINS - 1 };
 
 /* The place of a record's kind; its upper byte is 0. */
 enum { KIND_AT = 2 };
@@ -37,13 +41,18 @@ static uint8_t *put_head(uint8_t *record, size_t size, uint32_t kind) {
     return put(put(record, (uint32_t)size - 2, 2), kind, 2);
 }
 
-/* Prints what happened, and stops where the node answered otherwise than it should. */
-static void step(const char *what, uint32_t answer, uint32_t wanted) {
-    printf("%-56s %3u\n", what, (unsigned)answer);
+/* Stops where the node answered otherwise than it should. */
+static void expect(uint32_t answer, uint32_t wanted) {
     if (answer != wanted) {
-        printf("%u was expected\n", (unsigned)wanted);
+        printf("%u was expected, and not %u\n", (unsigned)wanted, (unsigned)answer);
         exit(1);
     }
+}
+
+/* Prints what happened. */
+static void step(const char *what, uint32_t answer, uint32_t wanted) {
+    printf("%-56s %3u\n", what, (unsigned)answer);
+    expect(answer, wanted);
 }
 
 /* The image that a call wrote is the one to hand to the next call. A vault stores it here, before
@@ -116,10 +125,14 @@ static void first_checkpoint(uint8_t *checkpoint, size_t length) {
         at = put(put(at, PRESENT, 1), 1, 4);
 }
 
+static void grant_to(uint8_t *record, uint32_t login, uint32_t end, uint32_t cycle, uint32_t day) {
+    uint8_t *at = announce(record, ACCESS_NODE_KIND_GRANT, cycle, day);
+    put(put(put(at, login, 4), end, 4), 1u << RIGHT, 2);
+}
+
 static void grant_by_vote(void) {
     uint8_t grant[ACCESS_NODE_ANNOUNCEMENT_SIZE];
-    uint8_t *at = announce(grant, ACCESS_NODE_KIND_GRANT, 1, 101);
-    put(put(put(at, LOGIN, 4), 400, 4), 1u << RIGHT, 2);
+    grant_to(grant, LOGIN, 400, 1, 101);
     for (int seat = 0; seat < HUBS; seat++)
         step("each hub votes for the grant", deliver(seat, grant, 0), ACCESS_NODE_VOTED);
     step("two votes are a quorum of three: hub 0 performs", deliver(0, grant, 2), ACCESS_NODE_OK);
@@ -214,14 +227,39 @@ static void certify_by_vote(void) {
                 "after three days each hub performs it");
 }
 
+/* The cycle after the fourth seat is certified, and the one after the list is full. */
+enum { SEASON_CYCLE = 8, FULL_CYCLE = SEASON_CYCLE + SEASON_LOGINS };
+
+/* Each hub performs the grants of the season. The first login ends on day 115, the others on 130. */
+static void fill_the_list(void) {
+    uint8_t grant[ACCESS_NODE_ANNOUNCEMENT_SIZE];
+    for (uint32_t i = 0; i < SEASON_LOGINS; i++) {
+        grant_to(grant, SEASON + i, i == 0 ? 115 : 130, SEASON_CYCLE + i, 115);
+        for (int seat = 0; seat < HUBS; seat++)
+            expect(deliver(seat, grant, 2), ACCESS_NODE_OK);
+    }
+}
+
+static void grant_to_a_full_list(void) {
+    uint8_t grant[ACCESS_NODE_ANNOUNCEMENT_SIZE];
+    uint32_t another = SEASON + SEASON_LOGINS;
+    fill_the_list();
+    grant_to(grant, another, 140, FULL_CYCLE, 115);
+    step("the list is full, and no login is over on day 115", deliver(0, grant, 2),
+         ACCESS_NODE_TABLE_FULL);
+    grant_to(grant, another, 140, FULL_CYCLE, 116);
+    all_perform("on day 116 one is, and each hub grants one more", grant);
+    step("which took the row of that one", ask_at(0, 0, SEASON, 116), ACCESS_NODE_NOT_LISTED);
+}
+
 static void end_by_vote(void) {
     uint8_t end[ACCESS_NODE_ANNOUNCEMENT_SIZE];
-    put(announce(end, ACCESS_NODE_KIND_END, 8, 116), LOGIN, 4);
+    put(announce(end, ACCESS_NODE_KIND_END, FULL_CYCLE + 1, 116), LOGIN, 4);
     step("hub 2 votes again, for the end of the login", deliver(2, end, 0), ACCESS_NODE_VOTED);
     step("hub 0 performs the end", deliver(0, end, 2), ACCESS_NODE_OK);
     step("it no longer lists the login", ask(0, 110), ACCESS_NODE_NOT_LISTED);
-    step("hub 1 has not heard of the end and still opens", ask(1, 145), ACCESS_NODE_OK);
-    step("but not for a day beyond the silence limit", ask(1, 146), ACCESS_NODE_SILENT);
+    step("hub 1 has not heard of the end and still opens", ask(1, 146), ACCESS_NODE_OK);
+    step("but not for a day beyond the silence limit", ask(1, 147), ACCESS_NODE_SILENT);
 }
 
 int main(void) {
@@ -235,6 +273,7 @@ int main(void) {
     rejoin_by_vote();
     set_notices_by_vote();
     certify_by_vote();
+    grant_to_a_full_list();
     end_by_vote();
     return 0;
 }

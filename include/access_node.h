@@ -72,9 +72,11 @@ extern "C" {
  * subject kind 7: every checkpoint of an earlier edition is read as before, but one with such a
  * proposal is malformed in those. In edition 7 a park sets its notices: minima has two more bytes,
  * and so have the checkpoint that is written, now of kind 26, and the image. A checkpoint of kind 16
- * is read as before, with notices 7 and 2; an image of 1,142 bytes is malformed. All nodes of a park
- * run under the same rules: those of editions 1 to 3, of edition 4, of 5, of 6, or of 7. */
-#define ACCESS_NODE_EDITION 7
+ * is read as before, with notices 7 and 2; an image of 1,142 bytes is malformed. In edition 8 a
+ * grant into a full list takes the row of a login that is over: no record changes, but the rules do.
+ * All nodes of a park run under the same rules: those of editions 1 to 3, of edition 4, of 5, of 6,
+ * of 7, or of 8. */
+#define ACCESS_NODE_EDITION 8
 
 /* Sizes of whole records; the earlier checkpoint is that of kind 16. A sheet has 0 to
  * ACCESS_NODE_MOST_ROWS rows. */
@@ -130,7 +132,7 @@ extern "C" {
 #define ACCESS_NODE_NOT_SIGNED 8     /* too few trustees of the level that the kind needs */
 #define ACCESS_NODE_SEAT_UNFIT 9     /* the seat's standing does not fit the kind or the start */
 #define ACCESS_NODE_NOT_NOTICED 10   /* no equal proposal from its notice up to 60 days old */
-#define ACCESS_NODE_TABLE_FULL 11    /* no row left for a proposal or a login */
+#define ACCESS_NODE_TABLE_FULL 11    /* no row left for a proposal; for a login, and none is over */
 #define ACCESS_NODE_QUORUM_LOST 12   /* fewer seats would be present than the quorum needs */
 #define ACCESS_NODE_NOT_FOUND 13     /* no such proposal, or a lapsed one; no such login to end */
 #define ACCESS_NODE_TOO_LOW 14       /* a life not above the listed one, or a grant that is over */
@@ -169,7 +171,7 @@ uint32_t node_start(const uint8_t *checkpoint, size_t checkpoint_length,
 /* Delivers an announcement with its sheet: performs it where the sheet shows a quorum, else votes.
  * Refusals: 1, 2, 22, 3 to 16. Writes the image with 0, then with no vote and no misses, and with
  * ACCESS_NODE_VOTED. */
-#define ACCESS_NODE_STACK_DELIVER 10240
+#define ACCESS_NODE_STACK_DELIVER 11264
 uint32_t node_deliver(const uint8_t *image, size_t image_length,
                       const uint8_t *announcement, size_t announcement_length,
                       const uint8_t *sheet, size_t sheet_length,

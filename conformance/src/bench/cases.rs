@@ -4,7 +4,7 @@ use crate::compare::call::{given, Records, VOTED};
 use crate::compare::fields::{Login, Notices, OwnFields, Proposal, Seat, StateFields};
 use crate::compare::fields::{FREE, PRESENT};
 use crate::compare::make::records;
-use crate::layout::{roster_line_size, to_old, MINIMA_KIND, SUBJECT_SIZE};
+use crate::layout::{roster_line_size, to_old, LOGINS, MINIMA_KIND, SUBJECT_SIZE};
 
 pub struct Case {
     pub name: &'static str,
@@ -110,7 +110,7 @@ impl Size {
         ]
     }
 
-    fn deliveries(&self) -> [Case; 8] {
+    fn deliveries(&self) -> Vec<Case> {
         let minima = announcement(MINIMA_KIND, records::arguments(&minima()));
         let remove = announcement(6, records::arguments(&[self.proposals - 1]));
         let rejoin = announcement(7, records::arguments(&next_life(self.proposals - 2)));
@@ -118,16 +118,28 @@ impl Size {
         let late = announcement(9, records::arguments(&1u32.to_le_bytes()));
         let deliver = |announcement: &[u8]| self.deliver(announcement, self.rows);
         let voted = self.deliver(&self.grant(), 0);
-        [
+        let mut cases = vec![
             self.case("deliver: propose done", deliver(&late_proposal()), 0),
             self.case("deliver: minima done", deliver(&minima), 0),
             self.case("deliver: remove done", deliver(&remove), 0),
             self.case("deliver: rejoin done", deliver(&rejoin), 0),
             self.case("deliver: grant done", deliver(&self.grant()), 0),
+        ];
+        cases.extend(self.eviction());
+        cases.extend([
             self.case("deliver: end done", deliver(&end), 0),
             self.case("deliver: grant voted", voted, VOTED),
             self.case("deliver: end no 13", deliver(&late), 13),
-        ]
+        ]);
+        cases
+    }
+
+    /// A grant to a full list that drops its first row and adds one behind the last: every row moves.
+    fn eviction(&self) -> Option<Case> {
+        let grant = announcement(8, records::grant(500 * self.logins + 1, DAY + 200, 3));
+        let is_full = self.logins == LOGINS.most as u32;
+        let records = self.deliver(&grant, self.rows);
+        is_full.then(|| self.case("deliver: grant evicts", records, 0))
     }
 
     fn grant(&self) -> Vec<u8> {
@@ -198,10 +210,11 @@ fn next_life(seat: u8) -> [u8; SUBJECT_SIZE] {
     records::subject(7, &[seat.into(), LIFE + 1])
 }
 
+/// A login of the list; the first ended the day before.
 fn login(i: u32) -> Login {
     Login {
         login: 500 * i,
-        end: DAY + 100,
+        end: if i == 1 { DAY - 1 } else { DAY + 100 },
         rights: 1,
     }
 }

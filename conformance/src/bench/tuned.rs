@@ -1,4 +1,4 @@
-//! Document 01 and requests A1 to A7 once more, written for speed alone: what the bench measures the
+//! Document 01 and requests A1 to A8 once more, written for speed alone: what the bench measures the
 //! archive against. It exists for the bench and may be dropped with it.
 //!
 //! No heap: a node is one struct on the stack, read and checked in one pass over the image. The rules

@@ -18,7 +18,8 @@ bench full 'query: open' archive 1000
 SIZE is full or small, VERSION archive, paper or tuned, CASE the name of a line that bench prints:
 start, start: kind 16
 deliver: propose done, deliver: minima done, deliver: remove done, deliver: rejoin done
-deliver: grant done, deliver: end done, deliver: grant voted, deliver: end no 13
+deliver: grant done, deliver: grant evicts (full only)
+deliver: end done, deliver: grant voted, deliver: end no 13
 query: open, query: open at door 3, query: no 19, query: no 18
 checkpoint
 page

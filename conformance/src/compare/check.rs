@@ -2,6 +2,7 @@
 
 pub mod claims;
 pub mod doors;
+mod evictions;
 pub mod hosts;
 mod notices;
 pub mod one_call;

@@ -1,11 +1,13 @@
 //! The fields of checkpoints and images, to look at the state that a call will meet. Nothing here
 //! checks what it reads or writes: malformed checkpoints are made with it too.
 
+mod logins;
 mod proposals;
 
 use crate::layout::{self, to_current, CHECKPOINT, CHECKPOINT_KIND, CHECKPOINT_SIZE, DOORS};
-use crate::layout::{IMAGE_SIZE, LOGIN, LOGINS, MISSES, MISSES_AT, OWN, PROPOSALS, ROW, ROWS};
-use crate::layout::{ROW_SIZE, SEATS, SEAT_ROW, VOTE, VOTED_AT};
+use crate::layout::{IMAGE_SIZE, LOGINS, MISSES, MISSES_AT, OWN, PROPOSALS, ROW, ROWS, ROW_SIZE};
+use crate::layout::{SEATS, SEAT_ROW, VOTE, VOTED_AT};
+pub use logins::{first_to_end, Login};
 pub use proposals::{Notices, Proposal};
 
 pub const FREE: u8 = 0;
@@ -24,13 +26,6 @@ impl Seat {
         standing: FREE,
         life: 0,
     };
-}
-
-#[derive(Clone, Copy, PartialEq, Debug)]
-pub struct Login {
-    pub login: u32,
-    pub end: u32,
-    pub rights: u16,
 }
 
 /// A checkpoint's fields; the tables hold used rows only.
@@ -127,6 +122,11 @@ impl StateFields {
         bytes
     }
 
+    /// The place of a login in the list.
+    pub fn place_of(&self, login: u32) -> Option<usize> {
+        self.logins.iter().position(|row| row.login == login)
+    }
+
     pub fn seats_of(&self, standings: &[u8]) -> Vec<u8> {
         (0..SEATS.most as u8)
             .filter(|&i| standings.contains(&self.seats[usize::from(i)].standing))
@@ -172,19 +172,6 @@ impl Seat {
 
     fn write(&self, row: &mut [u8]) {
         layout::put(&SEAT_ROW, &[self.standing.into(), self.life], row, 0);
-    }
-}
-
-impl Login {
-    fn read(row: &[u8]) -> Login {
-        let [login, end, rights] = layout::read(&LOGIN, row, 0);
-        let rights = rights as u16;
-        Login { login, end, rights }
-    }
-
-    fn write(&self, row: &mut [u8]) {
-        let values = [self.login, self.end, self.rights.into()];
-        layout::put(&LOGIN, &values, row, 0);
     }
 }
 

@@ -3,6 +3,7 @@
 pub mod announcements;
 pub mod arguments;
 mod ended_logins;
+pub mod evictions;
 mod exports;
 mod habits;
 pub mod histories;

@@ -9,7 +9,7 @@ use super::check::second::Second;
 use super::check::{doors, one_call, program, rerun};
 use super::make::histories::HistoryMaker;
 use super::make::random::Random;
-use super::make::{lone_requests, rosters, settings, streams, sweeps};
+use super::make::{evictions, lone_requests, rosters, settings, streams, sweeps};
 use super::tell::coverage::Coverage;
 use super::tell::kept_case::Case;
 use super::tell::roster_marks::Mark;
@@ -45,6 +45,7 @@ pub struct Stages {
     shared: u64,
     tight: u64,
     regranted: u64,
+    readmitted: u64,
     at_limit: u64,
     pages: u64,
     asked: [u64; WORDS.len()],
@@ -66,6 +67,7 @@ impl Stages {
             shared: 0,
             tight: 0,
             regranted: 0,
+            readmitted: 0,
             at_limit: 0,
             pages: 0,
             asked: [0; WORDS.len()],
@@ -150,6 +152,7 @@ impl Stages {
     pub fn lone_requests(&mut self, rng: &mut Random, until: u64) -> Result<(), Found> {
         let mut requests = lone_requests::ends();
         requests.extend(settings::edges());
+        requests.extend(evictions::edges());
         while self.coverage.calls < until {
             for request in requests {
                 self.single(request)?;
@@ -228,6 +231,7 @@ impl Stages {
         if tally.within {
             self.shared += tally.shared;
             self.regranted += tally.regranted;
+            self.readmitted += tally.readmitted;
             self.at_limit += tally.at_limit;
             self.pages += tally.pages;
         }
@@ -241,6 +245,8 @@ impl Stages {
     pub fn missing(&self) -> Vec<String> {
         let mut lines = self.coverage.missing();
         let regranted = "login open beyond the limit since it was granted again, within the bound";
+        let readmitted =
+            "evicted login open beyond the limit since it was granted again, within the bound";
         let at_limit = "ended login open on the last day of the limit, within the bound";
         let pages = "two pages at one cycle for one day, within the bound";
         let split = "history beyond the bound with two states at one cycle";
@@ -250,6 +256,7 @@ impl Stages {
             (self.shared, "two nodes at one cycle, within the bound"),
             (self.tight, "exactly 2m+1 double voters"),
             (self.regranted, regranted),
+            (self.readmitted, readmitted),
             (self.at_limit, at_limit),
             (self.pages, pages),
             (self.apart, "history run again for each door"),
@@ -278,6 +285,10 @@ impl Stages {
             format!(
                 "ended logins: {} open since granted again, {} open on the last day of the limit",
                 self.regranted, self.at_limit
+            ),
+            format!(
+                "evicted logins: {} open since granted again",
+                self.readmitted
             ),
             format!(
                 "beyond the bound: {} histories split, {} pairs with exactly 2m+1 double voters",
@@ -310,22 +321,18 @@ fn run_random(
     seed: u64,
     coverage: &mut Coverage,
 ) -> Result<(History, Tally), Found> {
-    coverage.restarts.begin();
-    coverage.settings.begin();
+    coverage.begin();
     let (mut maker, mut history) = HistoryMaker::new(Random::new(seed));
     let mut hosts = Hosts::new(second, &history.by_value);
     let mut claims = Claims::new(&history.first);
     for _ in 0..maker.length() {
         let call = maker.call(&hosts);
+        let by_value = history.by_value[call.host];
         let made = hosts.step(&call);
         history.calls.push(call);
         let mut take_up = |event: Option<Event>| {
             let Some(event) = event else { return Ok(()) };
-            coverage.note(&event.request, &event.outcome);
-            coverage.notices.note(&event.request, &event.outcome);
-            coverage.restarts.note(&event.request, &event.outcome);
-            coverage.doors.note(&event.request, &event.outcome);
-            coverage.settings.note(&event.request, &event.outcome);
+            coverage.note_event(&event, by_value);
             maker.learn(&event);
             claims.note(&event)
         };

@@ -3,6 +3,8 @@
 pub mod coverage;
 mod door_marks;
 mod doors;
+mod eviction_marks;
+mod evictions;
 pub mod kept_case;
 mod malformed_settings;
 mod marks;

@@ -1,5 +1,6 @@
 //! The checks that the comparison itself relies on.
 
+mod evictions;
 mod settings;
 
 use super::call::{answer_in, count_in, Event, Outcome, Records, Request};
@@ -11,7 +12,7 @@ use super::fields::{Login, OwnFields, Proposal, StateFields};
 use super::make::{records, rosters};
 use super::{random_history, Case, Random, FAULTY, PAPER};
 use crate::faulty;
-use crate::layout::{read, BODY, CYCLE_AND_DAY, DOORS, IMAGE_SIZE, LINE_SIZE};
+use crate::layout::{kind_of, read, BODY, CYCLE_AND_DAY, DOORS, IMAGE_SIZE, LINE_SIZE};
 
 const OWN: OwnFields = OwnFields {
     seat: 0,
@@ -43,6 +44,9 @@ fn performed(state: &StateFields, announcement: Vec<u8>, seats: &[(u8, u32)]) ->
     let mut after = state.clone();
     after.cycle += 1;
     [_, after.day] = read(&CYCLE_AND_DAY, &announcement, BODY);
+    if kind_of(&announcement) == 8 {
+        after.logins.push(Login::of(&announcement));
+    }
     event(
         state,
         Records::Deliver(announcement, records::sheet([1, 1], seats)),

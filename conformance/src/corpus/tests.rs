@@ -132,7 +132,7 @@ fn every_file_is_read() {
     for name in names() {
         assert!(read(&text(&name)).is_ok(), "{name}");
     }
-    assert_eq!(names().len(), 25 + 9 + 9 + 4);
+    assert_eq!(names().len(), 25 + 9 + 10 + 4);
 }
 
 #[test]

@@ -1,7 +1,7 @@
 //! What the nine actions do to a state.
 
 use super::announcement::{Action, Announcement};
-use super::state::{Day, Login, Notices, Proposal, Seat, Standing, State};
+use super::state::{Day, Login, Notices, Proposal, Seat, Standing, State, MOST_LOGINS};
 
 /// Request A3: "Lapsed rows, judged by the announced day, are dropped".
 pub fn without_lapsed(state: &State, announced: Day) -> State {
@@ -36,6 +36,23 @@ fn is_ripe(proposal: &Proposal, announced: Day, in_force: Notices) -> bool {
         _ => in_force.ordinary,
     });
     (least..=60).contains(&announced.since(proposal.day))
+}
+
+/// Where document 01 gives 11 to a grant: "table full and the row is needed". A grant "adds or replaces
+/// the login", so a listed one needs no row.
+pub fn lacks_row(state: &State, login: u32) -> bool {
+    let needed = !state.logins.contains_key(&login);
+    state.logins.len() >= MOST_LOGINS && needed
+}
+
+/// The login that a grant evicts where it lacks a row (02, A8: drops), if there is one: "the row with the
+/// earliest end day, the smallest login among equals, if that end day lies before the announced day".
+pub fn evicted(state: &State, announced: Day) -> Option<u32> {
+    let rows = state.logins.iter();
+    let earliest = rows.min_by_key(|(login, row)| (row.end, **login));
+    let (login, row) = earliest?;
+    let is_over = row.end < announced;
+    is_over.then_some(*login)
 }
 
 /// The state after the action: "cycle plus 1, day as announced". Defined for every state and
@@ -74,14 +91,28 @@ fn act(state: &mut State, announcement: &Announcement) {
             state.minima = *minima;
             set_notices(&mut state.notices, *named);
         }
-        // "adds or replaces the login"
         Action::Grant { login, end, rights } => {
             let (end, rights) = (*end, *rights);
-            state.logins.insert(*login, Login { end, rights });
+            grant(state, announcement.day, *login, Login { end, rights });
         }
         // "drops it"
         Action::End { login } => drop(state.logins.remove(login)),
         of_seat => act_on_seat(state, of_seat),
+    }
+}
+
+/// "adds or replaces the login"; request A8: "Where document 01 gives 11 to a grant, performing it now
+/// drops the row".
+fn grant(state: &mut State, announced: Day, login: u32, row: Login) {
+    if lacks_row(state, login) {
+        evict(state, announced);
+    }
+    state.logins.insert(login, row);
+}
+
+fn evict(state: &mut State, announced: Day) {
+    if let Some(login) = evicted(state, announced) {
+        state.logins.remove(&login);
     }
 }
 

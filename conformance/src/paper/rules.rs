@@ -1,9 +1,9 @@
 //! Rules 4 to 14 of the table of no: what a state, an announcement and a sheet decide.
 
-use super::actions::{perform, ripe};
+use super::actions::{evicted, lacks_row, perform, ripe};
 use super::announcement::{Action, Announcement};
 use super::records::Sheet;
-use super::state::{Cycle, Standing, State, MOST_LOGINS, MOST_PROPOSALS};
+use super::state::{Cycle, Standing, State, MOST_PROPOSALS};
 
 /// "the lowest number that applies is given, and only when it applies"
 pub fn refusal(state: &State, announcement: &Announcement, sheet: &Sheet) -> Option<u8> {
@@ -27,7 +27,7 @@ fn applies(number: u8, state: &State, announcement: &Announcement, sheet: &Sheet
         9 => is_unfit(state, &announcement.action),
         // "no ripe proposal"; request A6: "Rule 10 now covers kind 7."
         10 => announcement.is_proposed() && ripe(state, announcement).is_none(),
-        11 => is_full(state, &announcement.action),
+        11 => is_full(state, announcement),
         12 => leaves_no_quorum(state, announcement),
         13 => is_missing(state, &announcement.action),
         _ => is_late(state, announcement),
@@ -58,14 +58,13 @@ fn is_unfit(state: &State, action: &Action) -> bool {
 }
 
 /// "table full and the row is needed"
-fn is_full(state: &State, action: &Action) -> bool {
-    match action {
+fn is_full(state: &State, announcement: &Announcement) -> bool {
+    match &announcement.action {
         // An equal proposal doesn't spare the row.
         Action::Propose(_) => state.proposals.len() >= MOST_PROPOSALS,
-        // "adds or replaces the login": a listed one needs no row.
+        // Request A8: where no row is dropped, "11 remains".
         Action::Grant { login, .. } => {
-            let needed = !state.logins.contains_key(login);
-            state.logins.len() >= MOST_LOGINS && needed
+            lacks_row(state, *login) && evicted(state, announcement.day).is_none()
         }
         _ => false,
     }

@@ -42,7 +42,7 @@ found s d (Rejoin i life) e =
     let p = passes-rule (not (isActive (seatAt i (s .seats)))) 9 _ refl e in
     (not-false _ (p .0), leb-false _ _ (unrefused _ 14 refl (p .1)))
 found s d (Grant x) e =
-    let p = passes-rule (lacksRow (x .login) (s .logins)) 11 _ refl e in
+    let p = passes-rule (lacksRow d (x .login) (s .logins)) 11 _ refl e in
     (p .0, ltb-false _ _ (unrefused _ 14 refl (p .1)))
 found s d (End login) e = not-false _ (unrefused (not (isListed login (s .logins))) 13 refl e)
 
@@ -78,7 +78,7 @@ full-check s d (Minima x) e = never (search others depth 9) e
 full-check s d (Remove i) e = never (search others depth 9) e
 full-check s d (Rejoin i life) e = never (search others depth 9) e
 full-check s d (Grant x) e =
-    by-rule (lacksRow (x .login) (s .logins)) 11 _ 11 refl (λ _ a. let t = simp and-eq-true-iff at a in inr (t .0))
+    by-rule (lacksRow d (x .login) (s .logins)) 11 _ 11 refl (λ _ a. let t = simp and-eq-true-iff at a in inr (t .0 .0))
     (λ _ f. let r = refused (isBeforeDay (x .end) d) 14 11 (omega arith) f in absurd (omega arith)) e
 full-check s d (End login) e = never (search others depth 9) e
 

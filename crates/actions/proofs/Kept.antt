@@ -28,7 +28,7 @@ use Rattle.rules.specs.Rules.{checkRefusal, presentWithout}
 use Rattle.rules.proofs.Passed.{quorum-left}
 use Rattle.actions.specs.Perform.{withStanding, withLife, effect, useProposal, act}
 use Rattle.refusals.proofs.Chains.{unrefused, passes-rule}
-use Rattle.actions.proofs.Sound.{GoodSeat, Sound, EnoughWith, with-proposals, with-logins, with-dropped, with-seat, with-minima, seat-good}
+use Rattle.actions.proofs.Sound.{GoodSeat, no-login-good, Sound, EnoughWith, with-proposals, with-logins, with-dropped, with-seat, with-minima, seat-good}
 
 -- A seat of these ranges is not free, fits and is well formed.
 good-seat : (standing life : ℕ) → 1 ≤ standing → standing ≤ 3 → 1 ≤ life → life < 2 ^ 32 → GoodSeat (record { standing = standing; life = life })
@@ -95,5 +95,5 @@ module _ (s : State) (d : Day) (before : Sound (s .cycle) (s .day) s) (h : Sound
       _
   act-kept (Grant x) wc wd r e =
       let u = ne-eqb (x .login) 0 (let l = r .0 in omega arith) in
-      with-logins h _ (table-grant x (h .logins) (rw u) (r .0) ((r .1, (r .2, r .4)), rw (u, le-leb 1 (x .rights) (r .3))))
-  act-kept (End login) wc wd r e = with-logins h _ (table-drop (h .logins) _ noLogin refl ((omega arith, (omega arith, omega arith)), refl))
+      with-logins h _ (table-grant x (h .logins) (rw u) (r .0) ((r .1, (r .2, r .4)), rw (u, le-leb 1 (x .rights) (r .3))) no-login-good)
+  act-kept (End login) wc wd r e = with-logins h _ (table-drop (h .logins) _ noLogin refl no-login-good)

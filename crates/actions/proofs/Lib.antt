@@ -6,3 +6,4 @@ pub mod Kept
 pub mod Performed
 pub mod Admits
 pub mod Notified
+pub mod Evictions

@@ -24,7 +24,7 @@ use Rattle.state.specs.Time.{cycle, isBeforeCycle}
 use Rattle.state.specs.Minima.{isInRange, isInForce, setOver}
 use Rattle.state.specs.Update.{with, withTime, withMinima, withSeats, withProposals, withLogins}
 use Rattle.state.specs.Seats.{present, seatAt, setSeat, isPresent, presentSeats, quorum, quorumOf}
-use Rattle.state.specs.Rows.{noProposal, isProposal, isLogin}
+use Rattle.state.specs.Rows.{noProposal, isProposal, noLogin, isLogin}
 use Rattle.tables.specs.Proposals.{dropProposal, dropLapsed}
 use Rattle.state.specs.WellFormed.{isTrusteeCount, cycleOf, isWellFormedSeat, isWellFormedProposal, isWellFormedLogin}
 use Rattle.state.specs.WellFormed.{areWellFormedProposals, areWellFormedLogins, isWellFormed}
@@ -46,8 +46,15 @@ SeatTable seats = (length seats ≡ seatCount) × All GoodSeat seats
 abbrev pub ProposalTable : Cycle → Day → List Proposal → Type 0
 ProposalTable c d = IsTable isProposal cycleOf 0 proposalRows (Good format.proposal (isWellFormedProposal c d))
 
+abbrev pub GoodLogin : Login → Type 0
+GoodLogin = Good format.login isWellFormedLogin
+
 abbrev pub LoginTable : List Login → Type 0
-LoginTable = IsTable isLogin (λ r. r .login) 1 loginRows (Good format.login isWellFormedLogin)
+LoginTable = IsTable isLogin (λ r. r .login) 1 loginRows GoodLogin
+
+-- An unused row is as all others.
+pub no-login-good : GoodLogin noLogin
+no-login-good = ((omega arith, (omega arith, omega arith)), refl)
 
 -- All of a well-formed state but its cycle and day: its proposals are those of a state of cycle c and day d.
 pub record Sound (c : Cycle) (d : Day) (s : State) : Type 0 where
@@ -85,6 +92,11 @@ sound-of s w =
       proposals = table-of format.proposal (isWellFormedProposal (s .cycle) (s .day)) _ _ _ _ _ (tables .1 .0 .1) (e5 .0);
       logins = table-of format.login isWellFormedLogin _ _ _ _ _ (tables .1 .1 .1) (e5 .1);
     }
+
+-- Its logins are in order.
+pub login-order : (s : State) → WellFormed s → areWellFormedLogins (s .logins) ≡ true
+unfolding areWellFormedLogins
+login-order s w = table-to format.login isWellFormedLogin _ _ _ _ _ (sound-of s w .logins) .1
 
 -- Its minima are in force.
 in-force-of : {c : Cycle} {d : Day} {s : State} → Sound c d s → isInForce (s .minima) ≡ true

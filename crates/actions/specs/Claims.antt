@@ -111,7 +111,7 @@ Found s d (Certify i life) = seatAt i (s .seats) .standing ≡ free
 Found s d (Minima x) = quorum (presentSeats (s .seats)) (x .margin) (x .least) ≤ presentSeats (s .seats)
 Found s d (Remove i) = isActive (seatAt i (s .seats)) ≡ true
 Found s d (Rejoin i life) = (isActive (seatAt i (s .seats)) ≡ true) × (seatAt i (s .seats) .life < life)
-Found s d (Grant x) = (lacksRow (x .login) (s .logins) ≡ false) × DayNotAfter d (x .end)
+Found s d (Grant x) = (lacksRow d (x .login) (s .logins) ≡ false) × DayNotAfter d (x .end)
 Found s d (End login) = isListed login (s .logins) ≡ true
 
 abbrev pub AlwaysFound : Type 0

@@ -2,3 +2,4 @@
 pub mod Perform
 pub mod Code
 pub mod Claims
+pub mod Evictions

@@ -39,7 +39,7 @@ effect s d (Minima x) = withMinima (setOver (s .minima) x) s
 effect s d (Remove i) = withStanding i retired s
 -- 7 rejoin: raises that seat's life
 effect s d (Rejoin i life) = withLife i life s
--- 8 grant: adds or replaces the login
+-- 8 grant: adds or replaces the login; in a full list it "drops the row with the earliest end day"
 effect s d (Grant x) = withLogins (grantLogin x (s .logins)) s
 -- 9 end: drops it
 effect s d (End login) = withLogins (endLogin login (s .logins)) s

@@ -3,7 +3,7 @@ ghost use mathlib.Core.Path.{_≡_};
 ghost use mathlib.Core.Bool.{cond};
 ghost use Rattle.actions.specs.Code.{seatAfter, minimaAfter, proposalsAfter};
 ghost use Rattle.actions.specs.Perform.{advance};
-ghost use Rattle.rules.specs.Code.{FindsSeats, FindsNotice};
+ghost use Rattle.rules.specs.Code.{Finds};
 ghost use Rattle.state.specs.Seats.{certified, present};
 use records::Action;
 use records::Announcement;
@@ -110,7 +110,7 @@ fn proposals_after(
 // The state after an announcement is performed, from the one that it sees. One copy, changed in place: a function for each action that hands
 // back a state would copy it at each return.
 pub fn advance(s: State, found: Found, a: Announcement) -> State
-    requires { ⌜ FindsSeats s (a .action) found × FindsNotice s (a .day) (a .action) found ⌝ }
+    requires { ⌜ Finds s (a .day) (a .action) found ⌝ }
     ensures { λ r. ⌜ r ≡ advance s a ⌝ }
 {
     let mut out = s;
@@ -128,7 +128,8 @@ pub fn advance(s: State, found: Found, a: Announcement) -> State
     }
     if let Action::Grant { row } = action {
         let logins = out.logins;
-        let next = grant_login(logins, row);
+        let eviction = found.eviction;
+        let next = grant_login(logins, row, eviction);
         out.logins = next;
         return out;
     }

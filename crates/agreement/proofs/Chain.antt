@@ -1,5 +1,5 @@
 -- The states that a park reaches: the first one, and what a performed announcement makes of one. Where no two announcements performed from one state
--- differ, there is one state to a cycle, days never fall, and an ended login stays out until it is granted again.
+-- differ, there is one state to a cycle, days never fall, and a login that is not listed stays out until it is granted again.
 use mathlib.Core.Path.{_≡_, refl, sym, ap, _∙_, subst}
 use mathlib.Core.Bool.{Bool, true, false, true≢false}
 use Prim.Native.Nat.{ℕ, suc, _≤_, _<_}
@@ -10,10 +10,9 @@ use Rattle.state.specs.declared.State.{State}
 use Rattle.state.specs.declared.Day.{Day}
 use Rattle.tables.specs.Logins.{isListed}
 use Rattle.records.specs.declared.Announcement.{Announcement}
-use Rattle.records.specs.declared.Action.the-variants.{End}
 use Rattle.actions.specs.Perform.{perform}
 use Rattle.actions.specs.Claims.{Advances, IsGrantOf}
-use Rattle.actions.proofs.Performed.{end-drops, only-grant-adds}
+use Rattle.actions.proofs.Performed.{only-grant-adds}
 use Rattle.agreement.specs.Chain.{Reached, origin, next}
 
 -- an announcement that is performed from a state of a cycle above e and below c, and grants the login
@@ -98,8 +97,9 @@ module _ (first : State) (Step : State → Announcement → Type 0)
           let act : b ≡ a = one s b a (subst (λ (z : State). Step z b) same g) d in
           origin (f ∙ ap (λ (z : State). perform z b) same ∙ ap (perform s) act)
 
-  module _ (s : State) (a : Announcement) (login : ℕ) (S : Reach s) (d : Step s a) (ends : a .action ≡ End login) where
-    -- a login that is listed in a cycle after the one that ended it was granted in between
+  module _ (s : State) (a : Announcement) (login : ℕ) (S : Reach s) (d : Step s a)
+      (gone : isListed login (perform s a .logins) ≡ false) where
+    -- a login that is listed in a cycle after the one that left it unlisted was granted in between
     pub granted-since : {t : State} → Reach t → s .cycle .0 < t .cycle .0 → isListed login (t .logins) ≡ true
         → GrantBetween Step login (s .cycle .0) (t .cycle .0)
     granted-since {t} (origin f) c h =
@@ -129,4 +129,5 @@ module _ (first : State) (Step : State → Announcement → Type 0)
             let y = above in
             let same : q ≡ s = agree Q S (omega arith) in
             let act : b ≡ a = one s b a (subst (λ (z : State). Step z b) same g) d in
-            absurd (true≢false (sym listed ∙ end-drops q b login (ap (λ (z : Announcement). z .action) act ∙ ends)))
+            let left : perform q b ≡ perform s a = cc in
+            absurd (true≢false (sym listed ∙ ap (λ (z : State). isListed login (z .logins)) left ∙ gone))

@@ -9,7 +9,7 @@ use borrow.Author.Tests.{ltb-true}
 use Rattle.state.specs.declared.Day.{Day}
 use Rattle.state.specs.declared.Cycle.{Cycle}
 use Rattle.state.specs.declared.State.{State}
-use Rattle.state.specs.Time.{CycleBefore, isBeforeDay, laterDay}
+use Rattle.state.specs.Time.{isBeforeDay, laterDay, daysSince}
 use Rattle.state.specs.Seats.{quorumOf}
 use Rattle.tables.specs.Logins.{isListed}
 use Rattle.records.specs.declared.Announcement.{Announcement}
@@ -21,8 +21,9 @@ use Rattle.records.specs.Sheet.{rowsOf, countedSeats}
 use Rattle.records.specs.StartQuery.{readQuery}
 use Rattle.records.proofs.Counts.{quorums-overlap}
 use Rattle.checkpoint.specs.Checkpoint.{checkpointBytes, readCheckpoint}
-use Rattle.actions.specs.Claims.{IsGrantOf, Advances}
-use Rattle.actions.proofs.Performed.{always-advances}
+use Rattle.actions.specs.Perform.{perform}
+use Rattle.actions.specs.Claims.{Advances}
+use Rattle.actions.proofs.Performed.{always-advances, end-drops}
 use Rattle.node.specs.declared.Node.{Node}
 use Rattle.node.specs.declared.DeliverReply.{DeliverReply}
 use Rattle.node.specs.declared.QueryReply.{QueryReply}
@@ -36,8 +37,8 @@ use Rattle.node.proofs.Query.{query-comes-to}
 use Rattle.node.proofs.Numbers.{deliver-numbers, query-numbers}
 use Rattle.node_c.specs.Calls.{delivered, asked}
 use Rattle.agreement.specs.History.{History, Moment, Outcome, run, answer}
-use Rattle.agreement.specs.Claims.{Performed, Opened, PerformedIn, HeldIn, Park, EquivocationBound, Agreement, Ended, Demand3, AlwaysWellFormed}
-use Rattle.agreement.specs.Claims.{ImagesReadBack}
+use Rattle.agreement.specs.Claims.{Performed, Opened, PerformedIn, OpenedIn, HeldIn, Park, EquivocationBound, Agreement, Ended, Demand3, AlwaysWellFormed}
+use Rattle.agreement.specs.Claims.{GrantedBetween, ImagesReadBack}
 use Rattle.agreement.specs.Chain.{Step, Reached, AlwaysReached}
 use Rattle.agreement.proofs.Chain.{GrantBetween, agree, days, granted-since}
 use Rattle.agreement.proofs.Calls.{run-deliver, run-query, heard}
@@ -71,7 +72,7 @@ does t s ab a sb p =
     ∙ p .answered in
     done n ab sb a (p .read) (deliverOf n ab sb) (deliver-comes-to n ab sb) (heard (t .before) (p .host) (delivered ab sb) (p .out) n (p .held) said)
 
-opened : (n : Node) (qb : List ℕ) (q : Query) → readQuery qb ≡ Q.Read q → (r : QueryReply) → Asking n qb r → queryNumber (r .answer) ≡ 0 → Opens n q
+pub opened : (n : Node) (qb : List ℕ) (q : Query) → readQuery qb ≡ Q.Read q → (r : QueryReply) → Asking n qb r → queryNumber (r .answer) ≡ 0 → Opens n q
 opened n qb q rq r (Node.refuses k l y e) z =
     let range = query-numbers y in
     let w : queryNumber (r .answer) ≡ k = ap (λ (x : QueryReply). queryNumber (x .answer)) e in
@@ -163,8 +164,11 @@ module _ (first : List ℕ) (calls : History) (park : Park first calls) where
     agreement : Agreement calls
     agreement n k c = ap checkpointBytes (same-state n k c)
 
-    ended : Ended calls
-    ended e o ends late = found (granted-since (readCheckpoint first .state) Taken one advances s a login S (taken e) ends N later listed)
+    -- A login that is not listed after a performed delivery is open beyond D plus S only if it was granted since.
+    pub stays-out : (e : PerformedIn calls) (o : OpenedIn calls) → isListed (o .query .login) (perform (e .state) (e .announcement) .logins) ≡ false
+        → o .node .state .minima .silence < daysSince (o .query .day) (e .announcement .day)
+        → GrantedBetween calls (o .query .login) (e .state .cycle) (o .node .state .cycle)
+    stays-out e o gone late = found (granted-since (readCheckpoint first .state) Taken one advances s a login S (taken e) gone N later listed)
       where
         s : State
         s = e .state
@@ -205,10 +209,11 @@ module _ (first : List ℕ) (calls : History) (park : Park first calls) where
         listed : isListed login (n .state .logins) ≡ true
         listed = asked .listed
 
-        found : GrantBetween Taken login (s .cycle .0) (n .state .cycle .0)
-            → (g : PerformedIn calls) × IsGrantOf login (g .announcement) × CycleBefore (s .cycle) (g .state .cycle)
-            × CycleBefore (g .state .cycle) (n .state .cycle)
+        found : GrantBetween Taken login (s .cycle .0) (n .state .cycle .0) → GrantedBetween calls login (s .cycle) (n .state .cycle)
         found x = (as-performed (x .step), x .grants, x .above, x .below)
+
+    ended : Ended calls
+    ended e o ends late = stays-out e o (end-drops (e .state) (e .announcement) (o .query .login) ends) late
 
 pub demand-3 : Demand3
 demand-3 first calls park bound = (agreement first calls park bound, ended first calls park bound)

@@ -1,8 +1,8 @@
--- The two computed histories.
+-- The computed histories.
 use mathlib.Core.Path.{_≡_, refl, sym, ap, _∙_, subst}
 use mathlib.Core.Logic.{_⊎_, inl, inr}
-use mathlib.Core.Bool.{Bool, true, cond, _&&_, and-eq-true-iff}
-use mathlib.Core.List.{List, [], _∷_, List·Memᴰ, List·Memᴰ·head, List·Memᴰ·tail, List·Memᴰ·cases-cons, List·Memᴰ·not-nil, map}
+use mathlib.Core.Bool.{Bool, true, false, cond, _&&_, and-eq-true-iff}
+use mathlib.Core.List.{List, [], _∷_, _++_, List·Memᴰ, List·Memᴰ·head, List·Memᴰ·tail, List·Memᴰ·cases-cons, List·Memᴰ·not-nil, map}
 use mathlib.Core.Option.{some}
 use Prim.Native.Nat.{ℕ, zero, suc, _+_}
 use native.Mathlib.Omega.{arith}
@@ -14,10 +14,12 @@ use Rattle.binary.specs.Number.{Bytes, toBytes, overwrite}
 use Rattle.binary.specs.Codec.{encodeRows}
 use Rattle.state.specs.declared.Cycle.{Cycle}
 use Rattle.state.specs.declared.State.{State}
+use Rattle.tables.specs.Logins.{isListed}
 use Rattle.records.specs.declared.Announcement.{Announcement}
 use Rattle.records.specs.declared.AnnouncementRead.the-variants.{Read}
 use Rattle.records.specs.Announcement.{readAnnouncement}
-use Rattle.checkpoint.specs.Layout.{tablesAt, loginsAt}
+use Rattle.checkpoint.specs.Layout as layout
+use Rattle.checkpoint.specs.Layout.{tablesAt}
 use Rattle.checkpoint.specs.Checkpoint.{checkpointBytes, isCheckpoint}
 use Rattle.node.specs.Start.{startOf}
 use Rattle.node.specs.Deliver.{deliverOf}
@@ -25,11 +27,13 @@ use Rattle.node.specs.WellFormed.{isWellFormedVote, isWellFormedOwn}
 use Rattle.image.specs.Image.{imageBytes, decodeImage, isImage, readImage}
 use Rattle.node_c.specs.Calls.{return, onImage, nodeStart, nodeDeliver}
 use Rattle.examples.specs.Records.{firstCheckpoint, startSeat0, grantTo, twoRows}
+use Rattle.examples.specs.TableOfNo.{numbered}
 use Rattle.examples.proofs.Compute.{calls-by-value}
 use Rattle.agreement.specs.History.{byValue, throughC, Call, start, deliver, query, checkpoint, History, Cluster, empty, run, Moment}
 use Rattle.agreement.specs.History.{momentsFrom, moments, answer}
-use Rattle.agreement.specs.Claims.{PerformedIn, HeldIn, HoldsBytes, Park, EquivocationBound, Agreement}
+use Rattle.agreement.specs.Claims.{PerformedIn, HeldIn, HoldsBytes, Park, EquivocationBound, Agreement, runAll}
 use Rattle.agreement.specs.NotIdle.{startSeat1, otherRows, end501, peaceful, divided, WithinBound, BeyondBound}
+use Rattle.agreement.specs.NotIdle.{fullCheckpoint, end200, evicting, loginsAt, EvictsWithinBound}
 use Rattle.agreement.proofs.Demand.{advances, taken}
 
 -- what unfolds where calls at hosts are computed
@@ -112,10 +116,10 @@ AsAnnounced g (deliver h ab sb out) = (a : Announcement) → readAnnouncement ab
 AsAnnounced g (query h qb out) = Unit {0}
 AsAnnounced g (checkpoint h out) = Unit {0}
 
-bounded : (calls : History) (g : ℕ → List ℕ) → Park firstCheckpoint calls → Each (AsAnnounced g) calls → EquivocationBound calls
-bounded calls g k d p q s n =
-    let x = advances firstCheckpoint calls k (p .state) (p .announcement) (taken p) .this in
-    let y = advances firstCheckpoint calls k (q .state) (q .announcement) (taken q) .this in
+bounded : (first : List ℕ) (calls : History) (g : ℕ → List ℕ) → Park first calls → Each (AsAnnounced g) calls → EquivocationBound calls
+bounded first calls g k d p q s n =
+    let x = advances first calls k (p .state) (p .announcement) (taken p) .this in
+    let y = advances first calls k (q .state) (q .announcement) (taken q) .this in
     let same = x ∙ ap (λ (u : State). u .cycle) s ∙ sym y in
     absurd (n (announced-by p ∙ ap (λ (c : Cycle). g (c .0)) same ∙ sym (announced-by q)))
   where
@@ -130,22 +134,23 @@ peaceful-park : Park firstCheckpoint peaceful
 unfolding all
 peaceful-park = park firstCheckpoint peaceful refl first-accepted refl (refl, (refl, (tt, (tt, (tt, (tt, tt))))))
 
-announced : ℕ → List ℕ
-announced c = cond (eqb c 1) (grantTo 120) end501
+-- the grant in cycle 1, and another announcement afterwards
+announced : List ℕ → ℕ → List ℕ
+announced later c = cond (eqb c 1) (grantTo 120) later
 
 -- bytes that are read as an announcement of cycle c
-of-cycle : (ab : List ℕ) (b : Announcement) → readAnnouncement ab ≡ Read b → ab ≡ announced (b .cycle .0) → (a : Announcement) → readAnnouncement ab
-    ≡ Read a → ab ≡ announced (a .cycle .0)
-of-cycle ab b e f a r = let w : Read b ≡ Read a = sym e ∙ r in let same : b ≡ a = cc in subst
-    (λ (x : Announcement). ab ≡ announced (x .cycle .0)) same f
+of-cycle : (later ab : List ℕ) (b : Announcement) → readAnnouncement ab ≡ Read b → ab ≡ announced later (b .cycle .0)
+    → (a : Announcement) → readAnnouncement ab ≡ Read a → ab ≡ announced later (a .cycle .0)
+of-cycle later ab b e f a r = let w : Read b ≡ Read a = sym e ∙ r in let same : b ≡ a = cc in subst
+    (λ (x : Announcement). ab ≡ announced later (x .cycle .0)) same f
 
-granted : (a : Announcement) → readAnnouncement (grantTo 120) ≡ Read a → grantTo 120 ≡ announced (a .cycle .0)
+granted : (later : List ℕ) (a : Announcement) → readAnnouncement (grantTo 120) ≡ Read a → grantTo 120 ≡ announced later (a .cycle .0)
 unfolding calls-by-value announced
-granted = of-cycle (grantTo 120) _ refl refl
+granted later = of-cycle later (grantTo 120) _ refl refl
 
-ended : (a : Announcement) → readAnnouncement end501 ≡ Read a → end501 ≡ announced (a .cycle .0)
+ended : (a : Announcement) → readAnnouncement end501 ≡ Read a → end501 ≡ announced end501 (a .cycle .0)
 unfolding calls-by-value announced
-ended = of-cycle end501 _ refl refl
+ended = of-cycle end501 end501 _ refl refl
 
 answered : map answer (moments peaceful) ≡ replicate 6 (some 0)
 unfolding calls-at-hosts
@@ -154,8 +159,39 @@ answered = refl
 pub within-bound : WithinBound
 within-bound = record {
   park = peaceful-park;
-  bound = bounded peaceful announced peaceful-park (tt, (tt, (granted, (granted, (ended, (ended, tt))))));
+  bound = bounded firstCheckpoint peaceful (announced end501) peaceful-park (tt, (tt, (granted end501, (granted end501, (ended, (ended, tt))))));
   performed = answered;
+}
+
+-- ---- within the bound, with a list that is full
+
+evicting-park : Park fullCheckpoint evicting
+unfolding calls-at-hosts all numbered
+evicting-park = park fullCheckpoint evicting refl refl refl (refl, (refl, (tt, (tt, (tt, tt)))))
+
+not-ended : (a : Announcement) → readAnnouncement end200 ≡ Read a → end200 ≡ announced end200 (a .cycle .0)
+unfolding calls-by-value announced
+not-ended = of-cycle end200 end200 _ refl refl
+
+evicting-answered : map answer (moments evicting) ≡ replicate 4 (some 0) ++ (some 13 ∷ [])
+unfolding calls-at-hosts numbered
+evicting-answered = refl
+
+evicting-by-value : map (λ l. isListed l (loginsAt (byValue 0))) (200 ∷ 210 ∷ 501 ∷ []) ≡ false ∷ true ∷ true ∷ []
+unfolding calls-at-hosts numbered runAll
+evicting-by-value = refl
+
+evicting-through-C : map (λ l. isListed l (loginsAt (throughC 1))) (200 ∷ 210 ∷ 501 ∷ []) ≡ false ∷ true ∷ true ∷ []
+unfolding calls-at-hosts numbered runAll
+evicting-through-C = refl
+
+pub evicts-within-bound : EvictsWithinBound
+evicts-within-bound = record {
+  park = evicting-park;
+  bound = bounded fullCheckpoint evicting (announced end200) evicting-park (tt, (tt, (granted end200, (granted end200, (not-ended, tt)))));
+  answered = evicting-answered;
+  by-value = evicting-by-value;
+  through-C = evicting-through-C;
 }
 
 -- ---- beyond the bound
@@ -178,7 +214,7 @@ split A =
     let one : HeldIn divided = record { moment = _; inList = third; host = byValue 0; node = n; held = refl } in
     let other : HeldIn divided = record { moment = _; inList = fourth; host = throughC 1; node = k; held = refl } in
     let e = A one other refl in
-    let z : _≡_ {A = ℕ} 120 121 = ap (λ (b : List ℕ). getD b (tablesAt + loginsAt + 4) 0) e in
+    let z : _≡_ {A = ℕ} 120 121 = ap (λ (b : List ℕ). getD b (tablesAt + layout.loginsAt + 4) 0) e in
     omega arith
 
 pub beyond-bound : BeyondBound

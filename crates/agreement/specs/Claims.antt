@@ -16,6 +16,7 @@ use mathlib.Core.List.{List, [], _++_, _∷_, List·Memᴰ}
 use mathlib.Core.Option.{some}
 use Prim.Native.Nat.{ℕ, _+_, _*_, _≤_, _<_}
 use Rattle.binary.specs.Number.{Bytes}
+use Rattle.state.specs.declared.Cycle.{Cycle}
 use Rattle.state.specs.declared.State.{State}
 use Rattle.state.specs.Time.{daysSince, CycleBefore}
 use Rattle.records.specs.declared.Announcement.{Announcement}
@@ -120,6 +121,11 @@ abbrev pub Agreement : History → Type 0
 Agreement calls = (n k : HeldIn calls) → n .node .state .cycle ≡ k .node .state .cycle
     → checkpointBytes (n .node .state) ≡ checkpointBytes (k .node .state)
 
+-- a deliver call of the list performs a grant of the login, in a cycle above e and below c
+abbrev pub GrantedBetween : History → ℕ → Cycle → Cycle → Type 0
+GrantedBetween calls login e c = (g : PerformedIn calls) × IsGrantOf login (g .announcement)
+    × CycleBefore e (g .state .cycle) × CycleBefore (g .state .cycle) c
+
 -- "Ended, under that bound: a deliver call of the list performs kind 9 for the login, in cycle e with announced day D. A query for it, before or
 -- after that call in the list, on a given day above D+S (S of the node asked, the sum never cut to 32 bits) is answered open only if a deliver call
 -- of the list performs a grant of that login in a cycle above e and below the cycle of the node asked." A given day is above D+S where it comes more
@@ -127,8 +133,7 @@ Agreement calls = (n k : HeldIn calls) → n .node .state .cycle ≡ k .node .st
 abbrev pub Ended : History → Type 0
 Ended calls = (e : PerformedIn calls) (o : OpenedIn calls) → e .announcement .action ≡ End (o .query .login)
     → o .node .state .minima .silence < daysSince (o .query .day) (e .announcement .day)
-    → (g : PerformedIn calls) × IsGrantOf (o .query .login) (g .announcement)
-    × CycleBefore (e .state .cycle) (g .state .cycle) × CycleBefore (g .state .cycle) (o .node .state .cycle)
+    → GrantedBetween calls (o .query .login) (e .state .cycle) (o .node .state .cycle)
 
 -- Demand 3, whole.
 abbrev pub Demand3 : Type 0

@@ -1,13 +1,21 @@
--- The bound asks for something, and what it asks for can be had: a history within it in which two hosts perform, and one beyond it in which the park
--- splits.
+-- The bound asks for something, and what it asks for can be had: two histories within it in which two hosts perform, one of them with a list that is
+-- full, and one beyond it in which the park splits.
 use mathlib.Core.Path.{_≡_}
-use mathlib.Core.List.{List, [], _∷_, map}
+use mathlib.Core.Bool.{true, false}
+use mathlib.Core.List.{List, [], _∷_, _++_, map}
+use mathlib.Core.Option.{Option, none, some}
 use Prim.Native.Nat.{ℕ}
 use lib.ListN.{replicate}
+use Rattle.state.specs.declared.Login.{Login}
+use Rattle.tables.specs.Logins.{isListed}
+use Rattle.records.specs.declared.Action.the-variants.{End}
+use Rattle.checkpoint.specs.Checkpoint.{checkpointBytes}
+use Rattle.node.specs.declared.Node.{Node}
 use Rattle.image.specs.Layout.{imageSize}
-use Rattle.examples.specs.Records.{firstCheckpoint, startSeat0, grantTo, twoRows}
-use Rattle.agreement.specs.History.{byValue, throughC, start, deliver, History, moments, answer, accepted}
-use Rattle.agreement.specs.Claims.{Park, EquivocationBound, Agreement}
+use Rattle.examples.specs.Records.{firstCheckpoint, startSeat0, grantTo, twoRows, announce}
+use Rattle.examples.specs.Evictions.{fullOf, butTwo}
+use Rattle.agreement.specs.History.{Host, byValue, throughC, start, deliver, History, empty, nodeAt, moments, answer, accepted}
+use Rattle.agreement.specs.Claims.{Park, EquivocationBound, Agreement, runAll}
 
 -- seat 1 under life 1
 abbrev pub startSeat1 : List ℕ
@@ -52,3 +60,39 @@ pub record BeyondBound : Type 0 where
   pub park : Park firstCheckpoint divided
   pub performed : map answer (moments divided) ≡ replicate 4 accepted
   pub splits : ¬ Agreement divided
+
+-- ---- a list that is full (02, A8)
+
+-- 64 logins, of which 200 and 210 were over by day 100
+abbrev pub fullCheckpoint : List ℕ
+fullCheckpoint = checkpointBytes (fullOf (butTwo 20 99 21 99))
+
+-- end login 200 in cycle 2, day 110
+abbrev pub end200 : List ℕ
+end200 = announce 2 110 (End 200)
+
+-- both perform a grant that needs a row, each on another sheet; then the evicted login can't be ended
+abbrev pub evicting : History
+evicting =
+    start (byValue 0) fullCheckpoint startSeat0 []
+    ∷ start (throughC 1) fullCheckpoint startSeat1 room
+    ∷ deliver (byValue 0) (grantTo 120) (twoRows 0) []
+    ∷ deliver (throughC 1) (grantTo 120) otherRows room
+    ∷ deliver (throughC 1) end200 (twoRows 0) room
+    ∷ []
+
+-- the logins of the node that a host holds at the end
+abbrev pub loginsOf : Option Node → List Login
+loginsOf none = []
+loginsOf (some n) = n .state .logins
+
+abbrev pub loginsAt : Host → List Login
+loginsAt h = loginsOf (nodeAt (runAll empty evicting) h)
+
+pub record EvictsWithinBound : Type 0 where
+  pub park : Park fullCheckpoint evicting
+  pub bound : EquivocationBound evicting
+  pub answered : map answer (moments evicting) ≡ replicate 4 accepted ++ (some 13 ∷ [])
+  -- both hosts have dropped login 200, and list 210 and the granted 501
+  pub by-value : map (λ l. isListed l (loginsAt (byValue 0))) (200 ∷ 210 ∷ 501 ∷ []) ≡ false ∷ true ∷ true ∷ []
+  pub through-C : map (λ l. isListed l (loginsAt (throughC 1))) (200 ∷ 210 ∷ 501 ∷ []) ≡ false ∷ true ∷ true ∷ []

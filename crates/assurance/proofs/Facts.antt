@@ -1,20 +1,26 @@
 -- What a step of a park's chain tells: its state is reached and well formed, and no rule applied.
-use mathlib.Core.Path.{sym, subst}
+use mathlib.Core.Path.{_≡_, sym, subst}
 use mathlib.Core.Logic.{_≢_}
-use mathlib.Core.List.{List}
+use mathlib.Core.Bool.{true}
+use mathlib.Core.List.{List, List·Memᴰ}
 use Prim.Native.Nat.{ℕ}
+use Rattle.state.specs.declared.Login.{Login}
 use Rattle.state.specs.declared.State.{State}
+use Rattle.state.specs.Rows.{isLogin}
 use Rattle.records.specs.declared.Announcement.{Announcement}
 use Rattle.records.specs.Actions.{subjectOf}
 use Rattle.records.specs.Sheet.{level1, level2}
 use Rattle.checkpoint.specs.Checkpoint.{readCheckpoint}
 use Rattle.checkpoint.proofs.Earlier.{accepted-state}
+use Rattle.records.specs.Claims.{AnnouncementInRange}
 use Rattle.records.proofs.Ranges.{announcements-in-range}
 use Rattle.actions.specs.Perform.{withoutLapsed, perform}
 use Rattle.actions.specs.Claims.{WellFormed, Admitted, Signed, UsesNotice, Found}
 use Rattle.actions.proofs.Admits.{always-signed, always-found}
 use Rattle.actions.proofs.Notified.{always-notified}
+use Rattle.actions.specs.Evictions.{RowAfter}
 use Rattle.actions.proofs.Performed.{keeps-well-formed}
+use Rattle.actions.proofs.Evictions.{rows-stay}
 use Rattle.agreement.specs.History.{History}
 use Rattle.agreement.specs.Claims.{HoldsBytes, Park}
 use Rattle.agreement.specs.Chain.{Step, Reached, origin, next}
@@ -34,12 +40,18 @@ module _ (first : List ℕ) (calls : History) (park : Park first calls) (s : Sta
       subst (λ (z : State). Admitted z a (level1 (x .sheet)) (level2 (x .sheet))) (sym (p .state))
       (does (x .moment) s (x .bytes) a (x .sheet) p .accepted .admitted)
 
-  -- The state that it leaves is well formed too.
-  pub step-leaves : WellFormed (perform s a)
-  step-leaves =
+  step-in-range : AnnouncementInRange a
+  step-in-range =
       let p = x .performed in
       let h = subst HoldsBytes (p .called) (park .bytes (x .moment) (x .inList)) in
-      keeps-well-formed s a _ _ step-well-formed (announcements-in-range (x .bytes) a (h .0) (p .read) .1) step-admitted
+      announcements-in-range (x .bytes) a (h .0) (p .read) .1
+
+  -- The state that it leaves is well formed too.
+  pub step-leaves : WellFormed (perform s a)
+  step-leaves = keeps-well-formed s a _ _ step-well-formed step-in-range step-admitted
+
+  pub step-rows : (r : Login) → List·Memᴰ r (s .logins) → isLogin r ≡ true → RowAfter s a r
+  step-rows = rows-stay s a _ _ step-well-formed step-in-range step-admitted
 
   pub step-signed : Signed s (level1 (x .sheet)) (level2 (x .sheet)) (a .action)
   step-signed = always-signed s a _ _ step-admitted

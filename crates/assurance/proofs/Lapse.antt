@@ -63,7 +63,7 @@ module _ (n : Node) (ab sb : List ℕ) (a : Announcement) (x : Subject) (read : 
   not-full (no-11 (propose {a = b} r ax full)) =
       let same = ap (λ (z : Announcement). proposalsFull (dropLapsed (z .day) (n .state .proposals))) (same-announcement ab r read) in
       true≢false (sym full ∙ same ∙ room)
-  not-full (no-11 (grant {a = b} {x = y} r ax full unlisted)) =
+  not-full (no-11 (grant {a = b} {x = y} r ax full)) =
       let w : Grant y ≡ Propose x = sym ax ∙ ap (λ (z : Announcement). z .action) (same-announcement ab r read) ∙ proposes in
       clash (cc)
 

@@ -18,6 +18,7 @@ pub mod Facts
 pub mod Notice
 pub mod Lapse
 pub mod Provenance
+pub mod Evictions
 pub mod Lives
 pub mod Restarts
 pub mod Settings

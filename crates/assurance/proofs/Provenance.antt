@@ -1,68 +1,41 @@
 -- Where an open answer comes from.
 use mathlib.Core.Path.{_≡_, refl, sym, ap, _∙_}
-use mathlib.Core.Logic.{_≢_}
-use mathlib.Core.Bool.{Bool, true, false, cond, true≢false}
-use mathlib.Core.List.{List, [], _∷_}
-use Prim.Native.Nat.{ℕ, _≤_}
+use mathlib.Core.Bool.{true, false, true≢false}
+use Prim.Native.Nat.{ℕ}
 use native.Mathlib.Decide.{ℕ-discrete}
 use native.Mathlib.Omega.{arith}
-use borrow.Author.Tests.{eqb-true}
-use Rattle.lists.specs.Fold.{first}
 use Rattle.state.specs.declared.Login.{Login}
 use Rattle.state.specs.declared.State.{State}
-use Rattle.state.specs.Rows.{noLogin, isLogin}
-use Rattle.tables.specs.Logins.{isNamed, findLogin, isListed, grantLogin}
+use Rattle.state.specs.Rows.{isLogin}
+use Rattle.tables.specs.Logins.{findLogin, isListed, grantLogin}
 use Rattle.tables.proofs.LoginTable.{unlisted-ended}
 use Rattle.records.specs.declared.Announcement.{Announcement}
 use Rattle.records.specs.declared.Action.{Action}
 use Rattle.records.specs.declared.Action.the-variants.{Propose, Cancel, Presents, Certify, Minima, Remove, Rejoin, Grant, End}
-use Rattle.records.specs.Actions.{kindOf}
 use Rattle.checkpoint.specs.Checkpoint.{readCheckpoint}
 use Rattle.actions.specs.Perform.{perform, advance, act, withStanding, withLife, useProposal, effect}
 use Rattle.agreement.specs.History.{History}
 use Rattle.agreement.specs.Chain.{Step, Reached, origin, next}
 use Rattle.agreement.proofs.Steps.{always}
 use Rattle.agreement.proofs.Demand.{opens, not-before-given}
-use Rattle.assurance.specs.Provenance.{Leaves, Provenance, at-first, granted, OpenIsGranted}
-use Rattle.tables.proofs.FoundLogins.{grant-found, grant-others, end-others}
+use Rattle.assurance.specs.Provenance.{Stays, Provenance, at-first, granted, OpenIsGranted}
+use Rattle.tables.proofs.FoundLogins.{found-row, grant-found, grant-others, end-others}
 
--- a row that is found has the name
-found-named : (login : ℕ) (rows : List Login) → isListed login rows ≡ true → findLogin login rows .login ≡ login
-unfolding isListed findLogin first
-found-named login [] e = absurd (true≢false (sym e))
-found-named login (r ∷ rs) e = at (isNamed login r) refl e (found-named login rs)
-  where
-    at : (b : Bool) → isNamed login r ≡ b → isLogin (cond b r (first (isNamed login) noLogin rs)) ≡ true
-        → (isLogin (first (isNamed login) noLogin rs) ≡ true → first (isNamed login) noLogin rs .login ≡ login)
-        → cond b r (first (isNamed login) noLogin rs) .login ≡ login
-    at true n e h = eqb-true (r .login) login n
-    at false n e h = h e
-
--- What a step does to the row of a login that is listed afterwards: it grants that row, or leaves the row that was there.
+-- What a step does to the row of a login that is listed afterwards: it grants that row, or the row that was there stays.
 data After (login : ℕ) (r : State) (a : Announcement) : Type 0 where
   grants : a .action ≡ Grant (findLogin login (perform r a .logins)) → After login r a
-  leaves : Leaves login a → findLogin login (perform r a .logins) ≡ findLogin login (r .logins) → After login r a
+  leaves : findLogin login (perform r a .logins) ≡ findLogin login (r .logins) → After login r a
 
 module _ (login : ℕ) (r : State) (a : Announcement) (listed : isListed login (perform r a .logins) ≡ true) where
-  -- an action that is neither a grant nor an end
-  other : (x : Action) → a .action ≡ x → kindOf x ≤ 7 → findLogin login (perform r a .logins) ≡ findLogin login (r .logins) → After login r a
-  other x e k same =
-      leaves
-      (record {
-        no-grant = λ y z. let n = ap kindOf (sym e ∙ z) in absurd (omega arith);
-        no-end = λ z. let n = ap kindOf (sym e ∙ z) in omega arith;
-      })
-      same
-
   after : (x : Action) → a .action ≡ x → After login r a
   unfolding perform advance act withStanding withLife useProposal effect
-  after (Propose x) e = other _ e (omega arith) (rw e refl)
-  after (Cancel c) e = other _ e (omega arith) (rw e refl)
-  after (Presents i flag) e = other _ e (omega arith) (rw e refl)
-  after (Certify i life) e = other _ e (omega arith) (rw e refl)
-  after (Minima x) e = other _ e (omega arith) (rw e refl)
-  after (Remove i) e = other _ e (omega arith) (rw e refl)
-  after (Rejoin i life) e = other _ e (omega arith) (rw e refl)
+  after (Propose x) e = leaves (rw e refl)
+  after (Cancel c) e = leaves (rw e refl)
+  after (Presents i flag) e = leaves (rw e refl)
+  after (Certify i life) e = leaves (rw e refl)
+  after (Minima x) e = leaves (rw e refl)
+  after (Remove i) e = leaves (rw e refl)
+  after (Rejoin i life) e = leaves (rw e refl)
   after (Grant x) e = at (ℕ-discrete (x .login) login)
     where
       there : isListed login (grantLogin x (r .logins)) ≡ true
@@ -70,28 +43,16 @@ module _ (login : ℕ) (r : State) (a : Announcement) (listed : isListed login (
 
       at : Dec (x .login ≡ login) → After login r a
       at (yes same) = grants (e ∙ ap Grant (rw e (sym (grant-found login x (r .logins) same there))))
-      at (no n) =
-          leaves
-          (record {
-            no-grant = λ y z. (let q : Grant x ≡ Grant y = sym e ∙ z in let same : x ≡ y = cc in λ w. n (ap (λ (v : Login). v .login) same ∙ w));
-            no-end = λ z. let k = ap kindOf (sym e ∙ z) in omega arith;
-          })
-          (rw e (grant-others login x (r .logins) n there))
+      at (no n) = leaves (rw e (grant-others login x (r .logins) n there))
   after (End l) e = at (ℕ-discrete l login)
     where
       at : Dec (l ≡ login) → After login r a
       at (yes same) = absurd (true≢false (sym listed ∙ rw (e, same) (unlisted-ended login (r .logins))))
-      at (no n) =
-          leaves
-          (record {
-            no-grant = λ y z. let k = ap kindOf (sym e ∙ z) in absurd (omega arith);
-            no-end = λ z. (let q : End l ≡ End login = sym e ∙ z in let same : l ≡ login = cc in n same);
-          })
-          (rw e (end-others login l (r .logins) n))
+      at (no n) = leaves (rw e (end-others login l (r .logins) n))
 
 module _ (first : State) (calls : History) (login : ℕ) where
-  -- what a row comes from is also that of the next state, where the step leaves it
-  later : {r u : State} {row : Login} (a : Announcement) → Step calls r a → Leaves login a → u ≡ perform r a
+  -- what a row comes from is also that of the next state, where it stays
+  later : {r u : State} {row : Login} (a : Announcement) → Step calls r a → Stays login row r a → u ≡ perform r a
       → Provenance first calls login r row → Provenance first calls login u row
   later {r} a x l e (at-first f S) = at-first f (next r a S (x, l) e)
   later {r} a x l e (granted q b Q y f S) = granted q b Q y f (next r a S (x, l) e)
@@ -109,9 +70,9 @@ module _ (first : State) (calls : History) (login : ℕ) where
       at : (isListed login (r .logins) ≡ true → Provenance first calls login r (findLogin login (r .logins))) → After login r a
           → Provenance first calls login u (findLogin login (u .logins))
       at before (grants f) = granted r a R x (f ∙ ap Grant here) (origin e)
-      at before (leaves l same) =
+      at before (leaves same) =
           let was : findLogin login (u .logins) ≡ findLogin login (r .logins) = sym here ∙ same in
-          rw was (later a x l e (before (ap isLogin (sym was) ∙ listed)))
+          rw was (later a x (record { before = refl; after = same }) e (before (ap isLogin (sym was) ∙ listed)))
 
 pub open-is-granted : OpenIsGranted
 open-is-granted first calls park o =
@@ -125,7 +86,7 @@ open-is-granted first calls park o =
     record {
       row = findLogin (q .login) (n .state .logins);
       provenance = stems (readCheckpoint first .state) calls (q .login) R (O .listed);
-      named = found-named (q .login) (n .state .logins) (O .listed);
+      named = found-row (q .login) (n .state .logins) (O .listed) .1;
       right = O .right-held;
       end = omega arith;
       heard = omega arith;

@@ -8,6 +8,7 @@ pub mod Earned
 pub mod Notice
 pub mod Lapse
 pub mod Provenance
+pub mod Evictions
 pub mod Lives
 pub mod Restarts
 pub mod Settings

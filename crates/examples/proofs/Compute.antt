@@ -1,5 +1,5 @@
 -- What unfolds where a call is computed on numerals: `unfolding calls-by-value` opens every definition that the calls use.
-use Rattle.lists.specs.Fold.{any, all, count, countFrom, first}
+use Rattle.lists.specs.Fold.{any, all, count, countFrom, first, least}
 use Rattle.lists.specs.Table.{risingFrom, keep, fill, replaceFirst}
 use Rattle.refusals.specs.Refusals.{lowest}
 use Rattle.binary.specs.Number.{toBytes, fromBytes, isZeroFrom, isSameBytes, overwrite}
@@ -13,7 +13,7 @@ use Rattle.state.specs.Trustees.{onesBelow, isMajority}
 use Rattle.state.specs.Subjects.{isSeatAndLife, isCertify, isMinima, isRemove, isSubject}
 use Rattle.state.specs.WellFormed.{areWellFormedProposals, areWellFormedLogins, isWellFormed, blankState}
 use Rattle.tables.specs.Proposals.{addProposal, hasProposal, dropProposal, dropLapsed, matureProposal}
-use Rattle.tables.specs.Logins.{findLogin, isListed, insertLogin, grantLogin, endLogin}
+use Rattle.tables.specs.Logins.{findLogin, isListed, endLogin, insertLogin, addLogin, earliestRow, makeRoom, grantLogin}
 use Rattle.page.specs.Line.{places}
 use Rattle.page.specs.Page.{linesOf, pageText}
 use Rattle.records.specs.Announcement.{announcing, readPropose, readCancel, readPresents, readCertify, readMinima, readRemove, readRejoin}
@@ -32,11 +32,11 @@ use Rattle.node.specs.Checkpoint.{checkpointOf}
 use Rattle.node.specs.Page.{pageOf, pageSlice}
 
 unfoldable pub calls-by-value : Unit {0}
-unfolding any all count countFrom first risingFrom keep fill replaceFirst lowest toBytes fromBytes isZeroFrom overwrite encodeRows decodeRows
+unfolding any all count countFrom first least risingFrom keep fill replaceFirst lowest toBytes fromBytes isZeroFrom overwrite encodeRows decodeRows
     digits padded monthDays nextDate dateOf dayText places linesOf pageText
     isInRange isInForce presentSeats quorum quorumOf onesBelow isMajority isSeatAndLife isCertify isMinima isRemove isSubject
     areWellFormedProposals areWellFormedLogins isWellFormed blankState
-    addProposal hasProposal dropProposal dropLapsed matureProposal findLogin isListed insertLogin grantLogin endLogin
+    addProposal hasProposal dropProposal dropLapsed matureProposal findLogin isListed endLogin insertLogin addLogin earliestRow makeRoom grantLogin
     announcing readPropose readCancel readPresents readCertify readMinima readRemove readRejoin readGrant readEnd readKind readAnnouncement
     announcementBytes rowsOf isSheet counts countedSeats sheetOf readStart readQuery
     checkpointBytes decodeAs isOf isCheckpoint readCheckpoint

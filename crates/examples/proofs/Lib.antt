@@ -5,6 +5,7 @@ pub mod TableOfNo
 pub mod Lapse
 pub mod Restarts
 pub mod Notices
+pub mod Evictions
 pub mod Doors
 pub mod AccessPage
 pub mod Roster

@@ -4,9 +4,11 @@ pub mod Tests
 pub mod Options
 pub mod Every
 pub mod Firsts
+pub mod Least
 pub mod Members
 pub mod Tables
 pub mod TableMembers
+pub mod TableCounts
 pub mod Fronts
 pub mod Count
 pub mod Loops

@@ -1,6 +1,6 @@
 -- One turn of a loop over a list, and its end, for each fold and each operation on tables. The loop stands at index i of the list.
 use mathlib.Core.Path.{_≡_, refl, sym, ap, _∙_}
-use mathlib.Core.Bool.{Bool, true, false, not, _&&_, _||_, false≢true, and-true, and-false}
+use mathlib.Core.Bool.{Bool, true, false, cond, not, _&&_, _||_, false≢true, and-true, and-false}
 use mathlib.Core.List.{List, _∷_, _++_, append-assoc, append-nil}
 use Prim.Native.Nat.{ℕ, suc, _+_, _-_, _<_, _≤_}
 use native.Mathlib.Numerals.{add-one}
@@ -10,7 +10,7 @@ use borrow.Author.Tests.{ltb-true, ltb-false}
 use lib.Dec.{leb, ltb}
 use lib.ListN.{length, getD, take, drop, set, replicate, drop-of-length-le, length-set, length-replicate, take-append-drop}
 use lib.Seq.{drop-cons, take-suc, take-suc-set, drop-set-lt, take-all, set-split, length-take-le, take-append-seam}
-use Rattle.lists.specs.Fold.{any, all, count, first}
+use Rattle.lists.specs.Fold.{any, all, count, first, least}
 use Rattle.lists.specs.Table.{keep, fill, replaceFirst}
 use Rattle.lists.specs.Code.{leading, indexOf, insertAt}
 
@@ -77,6 +77,16 @@ module _ {A : Type 0} (p : A → Bool) (l : List A) (i : ℕ) (h : length l ≤ 
   pub index-end : indexOf p (drop i l) ≡ 0
   unfolding indexOf
   index-end = rw (drop-of-length-le l {i = i} h)
+
+-- A loop that has found x to come before the elements so far.
+module _ {A : Type 0} (before : A → A → Bool) (x : A) (l : List A) (i : ℕ) where
+  pub least-turn : (d : A) → i < length l → least before x (drop i l) ≡ least before (cond (before (getD l i d) x) (getD l i d) x) (drop (i + 1) l)
+  unfolding least
+  least-turn d h = rw (add-one, drop-cons l i d h)
+
+  pub least-end : length l ≤ i → least before x (drop i l) ≡ x
+  unfolding least
+  least-end h = rw (drop-of-length-le l {i = i} h)
 
 -- A loop over n elements whose condition also ends it, once one has passed.
 pub seek-inside : (n i : ℕ) (found : Bool) → (ltb i n && not found) ≡ true → i < n

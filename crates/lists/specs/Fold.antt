@@ -28,6 +28,11 @@ unfoldable pub first : {A : Type 0} → (A → Bool) → A → List A → A
 first p d [] = d
 first p d (x ∷ xs) = cond (p x) x (first p d xs)
 
+-- of x and the elements of the list the one that no other comes before, the first of several
+unfoldable pub least : {A : Type 0} → (A → A → Bool) → A → List A → A
+least before x [] = x
+least before x (y ∷ ys) = least before (cond (before y x) y x) ys
+
 -- no number occurs twice
 abbrev pub Distinct : List ℕ → Type 0
 Distinct [] = Unit {0}

@@ -1,7 +1,7 @@
 -- The number that a deliver gives applies.
 use mathlib.Core.Path.{_≡_, refl, ap}
 use mathlib.Core.Logic.{_≢_, _⊎_, inl, inr}
-use mathlib.Core.Bool.{Bool, true, false, not, and-eq-true-iff}
+use mathlib.Core.Bool.{Bool, true, false, not}
 use mathlib.Core.List.{List}
 use Prim.Native.Nat.{ℕ, _≤_}
 use native.Mathlib.Omega.{arith}
@@ -13,7 +13,8 @@ use Rattle.state.specs.declared.State.{State}
 use Rattle.state.specs.Time.{cycle, isBeforeDay, isBeforeCycle, isSameCycle, lastCycle}
 use Rattle.state.specs.Seats.{free, certified, present, seatAt, isActive}
 use Rattle.tables.specs.Proposals.{proposalsFull, hasProposal}
-use Rattle.tables.specs.Logins.{loginsFull, isListed, lacksRow}
+use Rattle.tables.specs.Logins.{isListed, lacksRow}
+use Rattle.tables.proofs.Earliest.{lacks-row-in-words}
 use Rattle.records.specs.declared.Announcement.{Announcement}
 use Rattle.records.specs.declared.AnnouncementRead.the-variants.{Read}
 use Rattle.records.specs.declared.Action.{Action}
@@ -95,8 +96,8 @@ module _ {n : Node} {ab sb : List ℕ} {a : Announcement} {k : ℕ} (ra : readAn
       (λ e t. let u = or-false-of _ _ (not-true _ t) in rw e (no-9 (rejoin ra ax (eqb-false _ _ (u .0)) (eqb-false _ _ (u .1)))))
       (λ _ e. let r = refused (leb life (seatAt i (n .state .seats) .life)) 14 k low e in rw (r .0) (no-14 (rejoin ra ax (leb-true _ _ (r .1))))) q
   check-applies (Kind.Grant x) ax q =
-      by-rule (lacksRow (x .login) (n .state .logins)) 11 _ k refl
-      (λ e t. let u = and-eq-true-iff (loginsFull (n .state .logins)) _ .0 t in rw e (no-11 (grant ra ax (u .0) (not-true _ (u .1)))))
+      by-rule (lacksRow (a .day) (x .login) (n .state .logins)) 11 _ k refl
+      (λ e t. rw e (no-11 (grant ra ax (lacks-row-in-words (a .day) (x .login) (n .state .logins) .lacks t))))
       (λ _ e. let r = refused (isBeforeDay (x .end) (a .day)) 14 k low e in rw (r .0) (no-14 (grant ra ax (ltb-true _ _ (r .1))))) q
   check-applies (Kind.End l) ax e =
       let r = refused (not (isListed l (n .state .logins))) 13 k low e in

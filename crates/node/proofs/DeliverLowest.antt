@@ -17,7 +17,8 @@ use Rattle.state.specs.declared.State.{State}
 use Rattle.state.specs.Time.{isBeforeDay, isBeforeCycle, isSameCycle, lastCycle}
 use Rattle.state.specs.Seats.{free, certified, present, seatAt, isActive, presentSeats, quorumOf}
 use Rattle.tables.specs.Proposals.{hasProposal, dropLapsed}
-use Rattle.tables.specs.Logins.{isListed, lacksRow}
+use Rattle.tables.specs.Logins.{isListed}
+use Rattle.tables.proofs.Earliest.{lacks-row-in-words}
 use Rattle.records.specs.declared.Announcement.{Announcement}
 use Rattle.records.specs.declared.AnnouncementRead.{AnnouncementRead}
 use Rattle.records.specs.declared.AnnouncementRead.the-variants.{Read, Malformed}
@@ -219,8 +220,8 @@ deliver-up-to {n} {ab} {sb} t (no-10 {a = a} ra k h) =
     by-rules n ab sb ra (omega arith) (λ _. in-notice n sb a (omega arith) (by-itself _ 10 e (omega arith) (omega arith)))
 deliver-up-to {n} {ab} {sb} t (no-11 (propose ra ax h)) =
     by-check n ab sb ra ax (omega arith) (search reaches depth 12)
-deliver-up-to {n} {ab} {sb} t (no-11 (grant {x = x} ra ax full h)) =
-    let e : lacksRow (x .login) (n .state .logins) ≡ true = rw (full, h) in
+deliver-up-to {n} {ab} {sb} t (no-11 (grant {a = a} {x = x} ra ax h)) =
+    let e = lacks-row-in-words (a .day) (x .login) (n .state .logins) .none h in
     by-check n ab sb ra ax (omega arith) (search reaches depth 12)
 deliver-up-to {n} {ab} {sb} t (no-12 {a = a} ra kind h) =
     by-check n ab sb ra refl (omega arith) (few-up-to (n .state) a h (a .action) refl kind)

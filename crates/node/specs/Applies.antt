@@ -15,8 +15,8 @@ use Rattle.state.specs.Time.{laterDay, daysSince, lastCycle, DayBefore, CycleBe
 use Rattle.state.specs.Seats.{free, certified, present, retired, seatAt, presentSeats, quorumOf}
 use Rattle.state.specs.Rows.{holdsRight}
 use Rattle.tables.specs.Proposals.{proposalsFull, hasProposal, dropLapsed}
-use Rattle.tables.specs.Logins.{loginsFull, isListed, findLogin}
-use Rattle.tables.specs.Claims.{IsNotice}
+use Rattle.tables.specs.Logins.{isListed, findLogin}
+use Rattle.tables.specs.Claims.{IsNotice, NoRowFor}
 use Rattle.records.specs.declared.Announcement.{Announcement}
 use Rattle.records.specs.declared.AnnouncementRead.the-variants as A
 use Rattle.records.specs.declared.Action.the-variants.{Propose, Cancel, Presents, Certify, Remove, Rejoin, Grant, End}
@@ -122,12 +122,13 @@ pub data Unfit : Asked → Type 0 where
   starting : {cb sb : List ℕ} {y : Start} {seat : Seat} → Starts cb sb y seat
       → (seat .standing ≡ free) ⊎ (seat .standing ≡ retired) → Unfit (start cb sb)
 
--- 11: the last row of the table is used, once the lapsed proposals are dropped; a grant needs no row where it replaces the login
+-- 11: the last row of the table is used, once the lapsed proposals are dropped; a grant needs no row where it replaces the login, and has one where it
+-- evicts another
 pub data Full : Asked → Type 0 where
   propose : {n : Node} {ab sb : List ℕ} {a : Announcement} {x : Subject} → Announces ab a → a .action ≡ Propose x
       → proposalsFull (dropLapsed (a .day) (n .state .proposals)) ≡ true → Full (at n (deliver ab sb))
   grant : {n : Node} {ab sb : List ℕ} {a : Announcement} {x : Login} → Announces ab a → a .action ≡ Grant x
-      → loginsFull (n .state .logins) ≡ true → isListed (x .login) (n .state .logins) ≡ false → Full (at n (deliver ab sb))
+      → NoRowFor (a .day) (x .login) (n .state .logins) → Full (at n (deliver ab sb))
 
 -- 13: "Cancelling a lapsed one meets rule 13."
 pub data Missing : Asked → Type 0 where
@@ -179,7 +180,7 @@ pub data Applies : Asked → ℕ → Type 0 where
   no-10 : {n : Node} {ab sb : List ℕ} {a : Announcement} → Announces ab a → subjectOf (a .action) .kind ≢ 0
       → ((r : Proposal) → List·Memᴰ r (n .state .proposals) → ¬ IsNotice (n .state .minima .notices) (subjectOf (a .action)) (a .day) r)
       → Applies (at n (deliver ab sb)) 10
-  -- 11 "table full and the row is needed"
+  -- 11 "table full and the row is needed"; of a grant, "Otherwise 11 remains"
   no-11 : {x : Asked} → Full x → Applies x 11
   -- 12 "kind 3, 5 or 6 would leave quorum above p"
   no-12 : {n : Node} {ab sb : List ℕ} {a : Announcement} → Announces ab a

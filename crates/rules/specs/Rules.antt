@@ -67,7 +67,7 @@ checkRefusal s d (Rejoin i life) =
     refuseIf (not (isActive (seatAt i (s .seats)))) 9
     orElse refuseIf (leb life (seatAt i (s .seats) .life)) 14
 checkRefusal s d (Grant x) =
-    refuseIf (lacksRow (x .login) (s .logins)) 11
+    refuseIf (lacksRow d (x .login) (s .logins)) 11
     orElse refuseIf (isBeforeDay (x .end) d) 14
 checkRefusal s d (End login) = refuseIf (not (isListed login (s .logins))) 13
 

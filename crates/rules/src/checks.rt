@@ -6,8 +6,9 @@ ghost use Rattle.state.specs.Kinds.{kindPropose, kindCancel, kindPresents, kind
 ghost use Rattle.state.specs.Limits.{seatCount};
 ghost use Rattle.state.specs.Seats.{certified, present};
 ghost use Rattle.state.specs.declared.Day.{Day};
+ghost use Rattle.state.specs.declared.State.{State};
 ghost use Rattle.records.specs.Actions.{kindOf};
-ghost use Rattle.rules.specs.Code.{FindsSeats};
+ghost use Rattle.rules.specs.Code.{FindsSeats, FindsEviction};
 ghost use Rattle.rules.specs.Rules.{quorumRefusal, presentWithout, checkRefusal};
 use crate::Found;
 use records::Action;
@@ -21,7 +22,6 @@ use state::seats::FREE;
 use state::seats::PRESENT;
 use state::seats::quorum;
 use tables::logins::is_listed;
-use tables::logins::lacks_row;
 use tables::proposals::has_proposal;
 use tables::proposals::proposals_full;
 
@@ -146,16 +146,17 @@ pub fn rejoin_check(s: State, found: Found, action: Action) -> u8
     or_else(unfit, refuse_if(life <= seat.life, 14))
 }
 
-pub fn grant_check(s: State, d: Day, action: Action) -> u8
+pub fn grant_check(found: Found, d: Day, action: Action) -> u8
     requires { ⌜ kindOf action ≡ kindGrant ⌝ }
-    ensures { λ r. ⌜ r ≡ checkRefusal s d action ⌝ }
+    ensures { λ r. ⌜ ((s : State) → FindsEviction s action found → r ≡ checkRefusal s d action) ⌝ }
 {
     let Action::Grant { row } = action else {
         return 1;
     };
-    let rows = s.logins;
+    let eviction = found.eviction;
+    let evicted = eviction.row;
     let end = row.end;
-    let full = refuse_if(lacks_row(rows, row.login), 11);
+    let full = refuse_if(eviction.needed & !evicted.is_ended(d), 11);
     or_else(full, refuse_if(end.is_before(d), 14))
 }
 

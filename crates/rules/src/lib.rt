@@ -3,12 +3,15 @@ mod checks;
 
 ghost use mathlib.Core.Path.{_≡_};
 ghost use Rattle.records.specs.Actions.{subjectOf};
+ghost use Rattle.records.specs.declared.Action.the-variants.{Grant};
 ghost use Rattle.refusals.specs.Refusals.{lowest, _orElse_};
-ghost use Rattle.rules.specs.Code.{FindsSeats, FindsNotice};
+ghost use Rattle.rules.specs.Code.{FindsNotice, Finds};
 ghost use Rattle.rules.specs.Rules.{timeRefusal, trusteeRefusal, noticeRefusal, actionRefusal};
 ghost use Rattle.state.specs.Trustees.{isMajority};
 ghost use Rattle.state.specs.declared.Day.{Day};
+ghost use Rattle.state.specs.declared.Login.{Login};
 ghost use Rattle.state.specs.declared.State.{State};
+ghost use Rattle.tables.specs.Code.{evictionFor};
 use crate::checks::cancel_check;
 use crate::checks::certify_check;
 use crate::checks::end_check;
@@ -41,6 +44,9 @@ use state::limits::LAST_CYCLE;
 use state::seats::present_seats;
 use state::seats::seat_at;
 use state::trustees::is_majority;
+use tables::Eviction;
+use tables::NO_EVICTION;
+use tables::logins::eviction_for;
 use tables::proposals::mature_proposal;
 
 // What the rules ask of the tables and the action uses.
@@ -51,11 +57,24 @@ pub struct Found {
     pub seat: Seat,
     // The mature proposal that the action needs, unused where there is none.
     pub notice: Proposal,
+    // What a grant evicts.
+    pub eviction: Eviction,
+}
+
+// What a grant evicts; no other action does.
+fn eviction_of(s: State, action: Action) -> Eviction
+    ensures { λ r. ⌜ ((y : Login) → action ≡ Grant y → r ≡ evictionFor (y .login) (s .logins)) ⌝ }
+{
+    let Action::Grant { row } = action else {
+        return NO_EVICTION;
+    };
+    let rows = s.logins;
+    eviction_for(rows, row.login)
 }
 
 // Looks it up, once for a delivery.
 pub fn find(s: State, d: Day, action: Action) -> Found
-    ensures { λ r. ⌜ FindsSeats s action r × FindsNotice s d action r ⌝ }
+    ensures { λ r. ⌜ Finds s d action r ⌝ }
 {
     let seats = s.seats;
     let rows = s.proposals;
@@ -63,10 +82,12 @@ pub fn find(s: State, d: Day, action: Action) -> Found
     let present = present_seats(seats);
     let seat = seat_at(seats, action.seat());
     let notice = mature_proposal(rows, notices, action.subject(), d);
+    let eviction = eviction_of(s, action);
     Found {
         present,
         seat,
         notice,
+        eviction,
     }
 }
 
@@ -114,7 +135,7 @@ fn refusal(unsigned: u8, unnoticed: u8, unfit: u8) -> u8
 // Rules 8 to 14. One decision on the kind number: each kind names the level of its trustees and its check; others are malformed. Whether
 // it needs a notice is told by its subject.
 pub fn action_refusal(s: State, found: Found, d: Day, mask1: u8, mask2: u8, action: Action) -> u8
-    requires { ⌜ FindsSeats s action found × FindsNotice s d action found ⌝ }
+    requires { ⌜ Finds s d action found ⌝ }
     ensures { λ r. ⌜ r ≡ actionRefusal s d mask1 mask2 action ⌝ }
 {
     let kind = action.kind();
@@ -129,7 +150,7 @@ pub fn action_refusal(s: State, found: Found, d: Day, mask1: u8, mask2: u8, acti
         MINIMA => refusal(level2, notice, minima_check(s, found, action)),
         REMOVE => refusal(level2, notice, remove_check(s, found, action)),
         REJOIN => refusal(level1, notice, rejoin_check(s, found, action)),
-        GRANT => refusal(level1, notice, grant_check(s, d, action)),
+        GRANT => refusal(level1, notice, grant_check(found, d, action)),
         END => refusal(level1, notice, end_check(s, action)),
         _ => 1,
     }

@@ -12,14 +12,14 @@ use Rattle.lists.specs.Fold.{any, first}
 use Rattle.lists.specs.Table.{keep}
 use Rattle.lists.proofs.Tests.{cond-cases, or-false-of}
 use Rattle.lists.proofs.Every.{All, none, more, all-keep, all-fill, all-map, all-take, keep-passes, none-of, none-to}
-use Rattle.lists.proofs.Tables.{Rising, unused, row, rising-lower, rising-take, IsTable}
+use Rattle.lists.proofs.Tables.{Rising, unused, row, rising-lower, rising-take, IsTable, table-drop}
 use Rattle.state.specs.Limits.{loginRows}
 use Rattle.state.specs.declared.Login.{Login}
 use Rattle.state.specs.Rows.{noLogin, isLogin}
-use Rattle.tables.specs.Logins.{isNamed, findLogin, isListed, insertLogin, grantLogin, endLogin}
+use Rattle.tables.specs.Logins.{isNamed, findLogin, isListed, endLogin, insertLogin, addLogin, needsRow, makeRoom, grantLogin}
 
 -- The three cases of an insert: the row of that name is replaced, the new row stands before this one, or the insert goes on after it.
-insert-cases : (P : List Login → Type 0) (x r : Login) (rs : List Login) → (r .login ≡ x .login → P (x ∷ rs))
+pub insert-cases : (P : List Login → Type 0) (x r : Login) (rs : List Login) → (r .login ≡ x .login → P (x ∷ rs))
     → ((isLogin r ≡ true → x .login < r .login) → P (x ∷ r ∷ rs)) → (isLogin r ≡ true → r .login < x .login → P (r ∷ insertLogin x rs))
     → P (insertLogin x (r ∷ rs))
 unfolding insertLogin
@@ -39,10 +39,10 @@ unfolding insertLogin
 all-insert none h = more h none
 all-insert {P} {x} (more g t) h = insert-cases (All P) x _ _ (λ e. more h t) (λ f. more h (more g t)) (λ u f. more g (all-insert t h))
 
-abbrev RisingLogins : ℕ → List Login → Type 0
+abbrev pub RisingLogins : ℕ → List Login → Type 0
 RisingLogins = Rising isLogin (λ r. r .login)
 
-rising-insert : {lo : ℕ} {rows : List Login} (x : Login) → isLogin x ≡ true → lo ≤ x .login → RisingLogins lo rows → RisingLogins lo
+pub rising-insert : {lo : ℕ} {rows : List Login} (x : Login) → isLogin x ≡ true → lo ≤ x .login → RisingLogins lo rows → RisingLogins lo
     (insertLogin x rows)
 unfolding insertLogin
 rising-insert x u l (unused none) = row u l (unused none)
@@ -59,19 +59,33 @@ length-insert x (r ∷ rs) =
     let k = length-insert x rs in
     insert-cases (λ l. suc (length rs) ≤ length l) x r rs (λ e. omega arith) (λ b. omega arith) (λ u b. omega arith)
 
--- A grant leaves a table, if the new row is as all others.
+-- What holds of the table as it is and of the table without any one login holds of the table in which there is room.
+pub room-cases : (P : List Login → Type 0) (login : ℕ) (rows : List Login) → P rows → ((l : ℕ) → P (endLogin l rows)) → P (makeRoom login rows)
+unfolding makeRoom
+room-cases P login rows same less = cond-cases P (needsRow login rows) (λ e. less _) (λ e. same)
+
+pub table-room : {Ok : Login → Type 0} {rows : List Login} (login : ℕ) → IsTable isLogin (λ r. r .login) 1 loginRows Ok rows → Ok noLogin
+    → IsTable isLogin (λ r. r .login) 1 loginRows Ok (makeRoom login rows)
+unfolding endLogin
+table-room {Ok} {rows} login t z =
+    room-cases (IsTable isLogin (λ r. r .login) 1 loginRows Ok) login rows t (λ l. table-drop t _ noLogin refl z)
+
+-- A grant leaves a table, if the new row and an unused one are as all others.
 pub table-grant : {Ok : Login → Type 0} {rows : List Login} (x : Login) → IsTable isLogin (λ r. r .login) 1 loginRows Ok rows → isLogin x ≡ true
-    → 1 ≤ x .login → Ok x
+    → 1 ≤ x .login → Ok x → Ok noLogin
     → IsTable isLogin (λ r. r .login) 1 loginRows Ok (grantLogin x rows)
-unfolding grantLogin
-table-grant {rows} x t u l o = record {
-  size =
-      let k = length-insert x rows in
-      let m = t .size in
-      simp length-take (omega arith);
-  rising = rising-take loginRows (rising-insert x u l (t .rising));
-  each = all-take loginRows (all-insert (t .each) o);
-}
+unfolding grantLogin addLogin
+table-grant {Ok} {rows} x t u l o z =
+    let left = makeRoom (x .login) rows in
+    let room = table-room (x .login) t z in
+    record {
+      size =
+          let k = length-insert x left in
+          let m = room .size in
+          simp length-take (omega arith);
+      rising = rising-take loginRows (rising-insert x u l (room .rising));
+      each = all-take loginRows (all-insert (room .each) o);
+    }
 
 -- 0 names no login.
 unlisted-zero : (rows : List Login) → isListed 0 rows ≡ false
@@ -95,15 +109,8 @@ unlisted : (login : ℕ) (rows : List Login) → (login ≢ 0 → All (λ r. isN
 unlisted zero rows f = unlisted-zero rows
 unlisted (suc l) rows f = listed-any (suc l) rows (omega arith) ∙ none-to (isNamed (suc l)) (f (omega arith))
 
-others : (login : ℕ) (rows : List Login) → isListed login rows ≡ false → login ≢ 0 → All (λ r. isNamed login r ≡ false) rows
+pub others : (login : ℕ) (rows : List Login) → isListed login rows ≡ false → login ≢ 0 → All (λ r. isNamed login r ≡ false) rows
 others login rows e z = none-of (isNamed login) rows (sym (listed-any login rows z) ∙ e)
-
--- A grant of another name lists no login that was not listed.
-pub unlisted-grant : (login : ℕ) (x : Login) (rows : List Login) → isNamed login x ≡ false → isListed login rows ≡ false → isListed login
-    (grantLogin x rows) ≡ false
-unfolding grantLogin
-unlisted-grant login x rows n e = unlisted login (take loginRows (insertLogin x rows))
-    (λ z. all-take loginRows (all-insert (others login rows e z) n))
 
 -- After an end a login is not listed, if no row that was kept has its name.
 unlisted-kept : (login ended : ℕ) (rows : List Login) → (login ≢ 0 → All (λ r. isNamed login r ≡ false) (keep (λ r. not (isNamed ended r)) rows))
@@ -117,3 +124,16 @@ unlisted-end login ended rows e = unlisted-kept login ended rows (λ z. all-keep
 
 pub unlisted-ended : (login : ℕ) (rows : List Login) → isListed login (endLogin login rows) ≡ false
 unlisted-ended login rows = unlisted-kept login login rows (λ z. all-map (λ r e. not-true _ e) (keep-passes (λ r. not (isNamed login r)) rows))
+
+-- A grant of another name lists no login that was not listed.
+pub unlisted-added : (login : ℕ) (x : Login) (rows : List Login) → isNamed login x ≡ false → isListed login rows ≡ false
+    → isListed login (addLogin x rows) ≡ false
+unfolding addLogin
+unlisted-added login x rows n e = unlisted login (take loginRows (insertLogin x rows))
+    (λ z. all-take loginRows (all-insert (others login rows e z) n))
+
+pub unlisted-grant : (login : ℕ) (x : Login) (rows : List Login) → isNamed login x ≡ false → isListed login rows ≡ false
+    → isListed login (grantLogin x rows) ≡ false
+unfolding grantLogin
+unlisted-grant login x rows n e = unlisted-added login x (makeRoom (x .login) rows) n
+    (room-cases (λ l. isListed login l ≡ false) (x .login) rows e (λ l. unlisted-end login l rows e))

@@ -4,7 +4,7 @@ ghost use mathlib.Core.Bool.{true};
 ghost use lib.ListN.{length};
 ghost use Rattle.records.specs.Layout.{announcementSize};
 ghost use Rattle.records.specs.Sheet.{isSheet};
-ghost use Rattle.rules.specs.Code.{FindsSeats, FindsNotice};
+ghost use Rattle.rules.specs.Code.{Finds};
 ghost use Rattle.state.specs.Seats.{presentSeats};
 ghost use Rattle.state.specs.declared.State.{State};
 ghost use Rattle.verdicts.specs.declared.Own.{Own};
@@ -38,7 +38,7 @@ use tables::logins::find_login;
 
 // Rules 3 to 14 for an announcement with its sheet, at a node of this seat.
 pub fn deliver_refusal(s: State, found: Found, held: Seat, a: Announcement, sheet: &[u8]) -> u8
-    requires { ⌜ (isSheet (now sheet) ≡ true) × (FindsSeats s (a .action) found × FindsNotice s (a .day) (a .action) found) ⌝ }
+    requires { ⌜ (isSheet (now sheet) ≡ true) × Finds s (a .day) (a .action) found ⌝ }
     ensures { λ r. ⌜ ((own : Own) → held ≡ heldSeat s own → r ≡ deliverRefusal s own a (now (sheet .entry))) ⌝ }
 {
     let cycle = s.cycle;

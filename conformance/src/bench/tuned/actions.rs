@@ -31,7 +31,7 @@ pub fn perform(state: &mut State, announced: &Announcement) {
         Action::Minima(named) => set_minima(state, named),
         Action::Remove { seat } => state.seats[seat].standing = RETIRED,
         Action::Rejoin { seat, life } => state.seats[seat].life = life,
-        Action::Grant(row) => grant(state, row),
+        Action::Grant(row) => grant(state, day, row),
         Action::End { login } => {
             if let Ok(place) = state.logins.place(login) {
                 state.logins.remove(place);
@@ -52,10 +52,16 @@ fn set_minima(state: &mut State, named: Minima) {
     }
 }
 
-fn grant(state: &mut State, row: Login) {
-    match state.logins.place(row.login) {
-        Ok(place) => state.logins.rows[place] = row,
-        Err(place) => state.logins.insert(place, row),
+fn grant(state: &mut State, day: u32, row: Login) {
+    let logins = &mut state.logins;
+    match logins.place(row.login) {
+        Ok(place) => logins.rows[place] = row,
+        Err(place) if !logins.is_full() => logins.insert(place, row),
+        Err(place) => {
+            if let Some(evicted) = logins.evicted(day) {
+                logins.exchange(evicted, place, row);
+            }
+        }
     }
 }
 

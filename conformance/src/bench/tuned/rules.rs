@@ -4,7 +4,7 @@ use super::announcement::{Action, Announcement};
 use super::bytes::u32_at;
 use super::image::Own;
 use super::records::Query;
-use super::state::{quorum, State, CERTIFIED, FREE, PRESENT, RETIRED};
+use super::state::{quorum, Login, State, CERTIFIED, FREE, PRESENT, RETIRED};
 
 /// Rules 3 to 8.
 pub fn deliver_refusal(state: &State, own: &Own, announced: &Announcement, sheet: &[u8]) -> u32 {
@@ -47,13 +47,19 @@ pub fn action_refusal(state: &State, announced: &Announcement) -> u32 {
         Action::Rejoin { seat, .. } if !is_active(seat) => 9,
         Action::Rejoin { .. } if !is_ripe() => 10,
         Action::Rejoin { seat, life } if life <= state.seats[seat].life => 14,
-        Action::Grant(row) if state.logins.is_full() && state.logins.place(row.login).is_err() => {
-            11
-        }
-        Action::Grant(row) if row.end < announced.day => 14,
+        Action::Grant(row) => grant_refusal(state, row, announced.day),
         Action::End { login } if state.logins.place(login).is_err() => 13,
         _ => 0,
     }
+}
+
+fn grant_refusal(state: &State, row: Login, day: u32) -> u32 {
+    let logins = &state.logins;
+    let lacks_row = logins.is_full() && logins.place(row.login).is_err();
+    if lacks_row && logins.evicted(day).is_none() {
+        return 11;
+    }
+    14 * u32::from(row.end < day)
 }
 
 fn presents_refusal(state: &State, seat: usize, flag: bool) -> u32 {

@@ -63,6 +63,17 @@ impl<T: Copy, const N: usize> Table<T, N> {
         self.count += 1;
     }
 
+    /// Puts a row before the one at `to` and takes out the one at `from`: the rows between move by one.
+    pub fn exchange(&mut self, from: usize, to: usize, row: T) {
+        if to > from {
+            self.rows.copy_within(from + 1..to, from);
+            self.rows[to - 1] = row;
+        } else {
+            self.rows.copy_within(to..from, to + 1);
+            self.rows[to] = row;
+        }
+    }
+
     pub fn remove(&mut self, at: usize) {
         self.rows.copy_within(at + 1..self.count, at);
         self.count -= 1;
@@ -91,6 +102,14 @@ impl Table<Login, 64> {
     /// The place of a login, or where it would be put.
     pub fn place(&self, login: u32) -> Result<usize, usize> {
         self.used().binary_search_by_key(&login, |row| row.login)
+    }
+
+    /// The place of the row that ended first, if that was before this day. Of equal ones it is the first,
+    /// which has the smallest login.
+    pub fn evicted(&self, day: u32) -> Option<usize> {
+        let rows = self.used().iter().enumerate();
+        let (place, row) = rows.min_by_key(|(_, row)| row.end)?;
+        (row.end < day).then_some(place)
     }
 }
 

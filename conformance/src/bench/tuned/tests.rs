@@ -3,7 +3,7 @@
 use crate::bench::measure::TUNED;
 use crate::compare::call::{Calls, Request};
 use crate::compare::make::random::Random;
-use crate::compare::make::{lone_requests, rosters, settings, sweeps};
+use crate::compare::make::{evictions, lone_requests, rosters, settings, sweeps};
 use crate::compare::PAPER;
 
 fn outcome(calls: &Calls, request: &Request) -> (u32, Vec<u8>) {
@@ -23,7 +23,8 @@ fn compare(request: &Request) -> Result<(), String> {
 #[test]
 fn answers_as_the_second_implementation() {
     let mut rng = Random::new(1);
-    for request in lone_requests::ends().iter().chain(&settings::edges()) {
+    let edges = [lone_requests::ends(), settings::edges(), evictions::edges()];
+    for request in edges.iter().flatten() {
         compare(request).unwrap();
     }
     for _ in 0..20_000 {

@@ -1,9 +1,11 @@
 //! The claims about a whole history (document 01, "One park, one list"): nodes at equal cycles
-//! share one state, and an ended login is not open beyond the silence limit. Both hold for lawful
-//! starts within the bound on double voters. The claims about pages are in `pages`, those about
-//! notices in `notices` and `settings`, those about lives in `restarts`, those about doors in `doors`.
+//! share one state, and a login that was ended, or evicted (02, A8: dropped), is not open beyond the
+//! silence limit. Both hold for lawful starts within the bound on double voters. The claims about pages
+//! are in `pages`, those about notices in `notices` and `settings`, those about lives in `restarts`, those
+//! about doors in `doors`, those about full lists in `evictions`.
 
 use super::doors;
+use super::evictions;
 use super::notices;
 use super::one_call;
 use super::pages::{Pages, WORDS};
@@ -12,6 +14,7 @@ use super::settings;
 use crate::compare::call::{Event, Records};
 use crate::compare::fields::StateFields;
 use crate::layout::{self, kind_of, ARGUMENTS, BODY, CYCLE_AND_DAY, QUERY};
+use std::cmp::Ordering;
 use std::collections::{HashMap, HashSet};
 
 /// A delivery that was performed.
@@ -23,7 +26,7 @@ struct Performed {
     margin: u8,
 }
 
-/// An end or a grant that was performed.
+/// An end, an eviction or a grant of a login that was performed.
 struct Change {
     login: u32,
     cycle: u32,
@@ -39,7 +42,6 @@ struct Opened {
 }
 
 /// What a history showed about the claims.
-#[derive(Default)]
 pub struct Tally {
     /// Its starts are lawful and it is within the bound, so that the claims were checked on it.
     pub within: bool,
@@ -51,6 +53,8 @@ pub struct Tally {
     pub tight: u64,
     /// Queries for an ended login beyond the limit that were open, since it was granted again.
     pub regranted: u64,
+    /// The same for an evicted login.
+    pub readmitted: u64,
     /// Queries for an ended login that were open on the last day that the limit allows.
     pub at_limit: u64,
     /// Pages for a cycle and a day for which one was given before.
@@ -70,6 +74,7 @@ pub struct Claims {
     split: Option<u32>,
     shared: u64,
     ends: Vec<Change>,
+    evictions: Vec<Change>,
     grants: Vec<Change>,
     opened: Vec<Opened>,
     pages: Pages,
@@ -86,6 +91,7 @@ impl Claims {
             split: None,
             shared: 0,
             ends: Vec::new(),
+            evictions: Vec::new(),
             grants: Vec::new(),
             opened: Vec::new(),
             pages: Pages::default(),
@@ -98,6 +104,7 @@ impl Claims {
         restarts::check(event)?;
         settings::check(event)?;
         doors::check(event)?;
+        let evicted = evictions::check(event)?;
         let (0, Some(written)) = (event.outcome.number, &event.outcome.written) else {
             return Ok(());
         };
@@ -108,6 +115,7 @@ impl Claims {
             }
             Records::Deliver(announcement, sheet) => {
                 self.note_performed(&event.request.image, announcement, sheet)?;
+                self.note_changes(announcement, evicted);
                 self.note_state(written)
             }
             Records::Query(query) => {
@@ -152,15 +160,6 @@ impl Claims {
         let state =
             one_call::checkpoint_of(image).ok_or("an image that performs gives no checkpoint")?;
         let fields = StateFields::read(&state).ok_or("a checkpoint is short")?;
-        let [cycle, day] = layout::read(&CYCLE_AND_DAY, announcement, BODY);
-        // Grant and end both begin with the login.
-        let login = layout::number_at(announcement, ARGUMENTS, 4);
-        let change = Change { login, cycle, day };
-        match kind_of(announcement) {
-            8 => self.grants.push(change),
-            9 => self.ends.push(change),
-            _ => {}
-        }
         let performed = Performed {
             announcement: announcement.to_vec(),
             counted: fields.counted(sheet),
@@ -168,6 +167,20 @@ impl Claims {
         };
         self.performed.entry(state).or_default().push(performed);
         Ok(())
+    }
+
+    /// Takes up what a performed announcement does to the list of logins.
+    fn note_changes(&mut self, announcement: &[u8], evicted: Option<u32>) {
+        let [cycle, day] = layout::read(&CYCLE_AND_DAY, announcement, BODY);
+        let change = |login: u32| Change { login, cycle, day };
+        // Grant and end both begin with the login.
+        let named = change(layout::number_at(announcement, ARGUMENTS, 4));
+        match kind_of(announcement) {
+            8 => self.grants.push(named),
+            9 => self.ends.push(named),
+            _ => {}
+        }
+        self.evictions.extend(evicted.map(change));
     }
 
     /// By pair of performed deliveries from one state with different announcements: seats that
@@ -201,41 +214,53 @@ impl Claims {
             ));
         }
         let tight = pairs.iter().filter(|(both, bound)| *both == bound + 1);
-        let mut tally = Tally {
+        let [regranted, at_limit] = self.opened_after("ended", &self.ends, within)?;
+        let [readmitted, _] = self.opened_after("evicted", &self.evictions, within)?;
+        Ok(Tally {
             within,
             split: self.split.is_some(),
             shared: self.shared,
             tight: tight.count() as u64,
+            regranted,
+            readmitted,
+            at_limit,
             pages: self.pages.shared,
             asked: self.pages.asked,
-            ..Tally::default()
-        };
-        for ended in &self.ends {
-            for opened in self.opened.iter().filter(|o| o.login == ended.login) {
-                self.add_opened(ended, opened, &mut tally)?;
-            }
-        }
-        Ok(tally)
+        })
     }
 
-    /// Takes up an end and an open query of the same login.
-    fn add_opened(&self, ended: &Change, opened: &Opened, tally: &mut Tally) -> Result<(), String> {
-        // In 64 bits, so that the sum is never cut.
-        let limit = u64::from(ended.day) + u64::from(opened.silence);
-        let day = u64::from(opened.day);
-        let again = |grant: &Change| {
-            grant.login == ended.login && grant.cycle > ended.cycle && grant.cycle < opened.cycle
-        };
-        if day <= limit {
-            tally.at_limit += u64::from(day == limit);
-        } else if self.grants.iter().any(again) {
-            tally.regranted += 1;
-        } else if tally.within {
-            let (login, end, cycle) = (ended.login, ended.cycle, opened.cycle);
-            return Err(format!(
-                "login {login}, ended in cycle {end}, is open on day {day} in cycle {cycle}"
-            ));
+    /// Open queries for logins that were ended or evicted: beyond the limit since granted again, and on
+    /// the last day that it allows.
+    fn opened_after(&self, how: &str, gone: &[Change], within: bool) -> Result<[u64; 2], String> {
+        let [mut again, mut at_limit] = [0; 2];
+        for gone in gone {
+            for opened in self.opened.iter().filter(|o| o.login == gone.login) {
+                // In 64 bits, so that the sum is never cut.
+                let limit = u64::from(gone.day) + u64::from(opened.silence);
+                match u64::from(opened.day).cmp(&limit) {
+                    Ordering::Less => {}
+                    Ordering::Equal => at_limit += 1,
+                    Ordering::Greater if self.is_granted_again(gone, opened) => again += 1,
+                    Ordering::Greater if within => return Err(opened.after(how, gone)),
+                    Ordering::Greater => {}
+                }
+            }
         }
-        Ok(())
+        Ok([again, at_limit])
+    }
+
+    fn is_granted_again(&self, gone: &Change, opened: &Opened) -> bool {
+        self.grants.iter().any(|grant| {
+            grant.login == gone.login && grant.cycle > gone.cycle && grant.cycle < opened.cycle
+        })
+    }
+}
+
+impl Opened {
+    /// That it is open though it was ended or evicted.
+    fn after(&self, how: &str, gone: &Change) -> String {
+        let (login, since) = (gone.login, gone.cycle);
+        let (day, cycle) = (self.day, self.cycle);
+        format!("login {login}, {how} in cycle {since}, is open on day {day} in cycle {cycle}")
     }
 }

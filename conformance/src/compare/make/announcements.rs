@@ -1,6 +1,7 @@
 //! Announcements that a state admits more often than not, and their near misses.
 
 use super::arguments;
+use super::evictions;
 use super::random::Random;
 use super::records;
 use crate::compare::fields::{Proposal, StateFields};
@@ -19,6 +20,10 @@ pub fn any(rng: &mut Random, state: &StateFields) -> Vec<u8> {
 }
 
 fn content(rng: &mut Random, state: &StateFields) -> (u16, u32, [u8; 12]) {
+    if evictions::is_crowded(state) && rng.chance(20) {
+        let (day, arguments) = evictions::grant(rng, state, &[]);
+        return (8, day, arguments);
+    }
     match rng.below(100) {
         _ if state.proposals.is_empty() => {}
         0..=24 => return due(rng, state),

@@ -3,6 +3,7 @@
 
 use super::announcements;
 use super::ended_logins;
+use super::evictions;
 use super::habits::Habits;
 use super::malformed;
 use super::random::Random;
@@ -36,6 +37,8 @@ pub struct HistoryMaker {
     sent: Vec<Records>,
     /// What comes next at one door.
     bad_queries: BadQueries,
+    /// The logins that were evicted.
+    evicted: Vec<u32>,
 }
 
 impl HistoryMaker {
@@ -58,6 +61,7 @@ impl HistoryMaker {
             chosen: HashMap::new(),
             sent: Vec::new(),
             bad_queries: BadQueries::default(),
+            evicted: Vec::new(),
         };
         (maker, history)
     }
@@ -89,6 +93,7 @@ impl HistoryMaker {
         };
         match &event.request.records {
             Records::Deliver(announcement, sheet) => {
+                self.learn_evicted(&event.request.image, announcement, written);
                 let state = event.request.image[..CHECKPOINT_SIZE].to_vec();
                 let counted = StateFields::read(&state).map_or(0, |state| state.counted(sheet));
                 self.chosen
@@ -97,6 +102,19 @@ impl HistoryMaker {
             }
             Records::Checkpoint => self.given.push(written.clone()),
             _ => {}
+        }
+    }
+
+    /// Takes up the login that a performed grant evicted.
+    fn learn_evicted(&mut self, image: &[u8], announcement: &[u8], written: &[u8]) {
+        if kind_of(announcement) != 8 {
+            return;
+        }
+        if let (Some(before), Some(after)) = (StateFields::read(image), StateFields::read(written))
+        {
+            let logins = before.logins.iter().map(|row| row.login);
+            let gone = logins.filter(|login| after.place_of(*login).is_none());
+            self.evicted.extend(gone);
         }
     }
 
@@ -123,18 +141,26 @@ impl HistoryMaker {
             };
         }
         if self.rng.chance(self.habits.queries) {
-            let mut query = match self.habits.focus {
-                login if login > 0 && self.rng.chance(50) => {
-                    ended_logins::query(&mut self.rng, &state, login)
-                }
-                _ => starts_queries::query(&mut self.rng, &state),
-            };
-            self.damage(&mut query);
-            return Records::Query(query);
+            return self.query(&state);
         }
         let delivery = self.deliver(hosts, image, &state, &own);
         self.sent.push(delivery.clone());
         delivery
+    }
+
+    fn query(&mut self, state: &StateFields) -> Records {
+        let mut query = match self.habits.focus {
+            login if login > 0 && self.rng.chance(50) => {
+                ended_logins::query(&mut self.rng, state, login)
+            }
+            _ if !self.evicted.is_empty() && self.rng.chance(10) => {
+                let login = self.rng.pick(&self.evicted);
+                evictions::query(&mut self.rng, state, login)
+            }
+            _ => starts_queries::query(&mut self.rng, state),
+        };
+        self.damage(&mut query);
+        Records::Query(query)
     }
 
     fn damage(&mut self, record: &mut Vec<u8>) {
@@ -224,6 +250,9 @@ impl HistoryMaker {
             (_, Some(vote)) if self.rng.chance(40) => vote.clone(),
             _ if self.habits.focus > 0 && self.rng.chance(50) => {
                 ended_logins::announcement(&mut self.rng, state, self.habits.focus)
+            }
+            _ if evictions::is_crowded(state) && self.rng.chance(40) => {
+                evictions::announcement(&mut self.rng, state, &self.evicted)
             }
             _ if self.rng.chance(self.habits.proposals) => {
                 announcements::about_proposals(&mut self.rng, state)

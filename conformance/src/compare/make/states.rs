@@ -2,6 +2,7 @@
 
 use super::announcements;
 use super::arguments;
+use super::evictions;
 use super::random::Random;
 use super::values;
 use crate::compare::fields::{
@@ -156,6 +157,10 @@ fn subject(rng: &mut Random, state: &StateFields, only: Option<u16>) -> (u16, [u
 }
 
 fn set_logins(rng: &mut Random, state: &mut StateFields) {
+    if rng.chance(25) {
+        state.logins = evictions::crowd(rng, state);
+        return;
+    }
     let most = LOGINS.most as u32;
     let count = match rng.below(6) {
         0 => 0,

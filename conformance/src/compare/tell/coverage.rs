@@ -2,12 +2,13 @@
 //! edges.
 
 use super::doors::Doors;
+use super::evictions::Evictions;
 use super::notices::Notices;
 use super::ranges::{Range, ANNOUNCED, ASKED, DATES, HEAD, OWN_MISSES, PERFORMED, RANGES};
 use super::restarts::Restarts;
 use super::rosters::Rosters;
 use super::settings::Settings;
-use crate::compare::call::{Outcome, Records, Request, CALLS, VOTED};
+use crate::compare::call::{Event, Outcome, Records, Request, CALLS, VOTED};
 use crate::compare::fields::{self, Login, OwnFields, Seat, StateFields};
 use crate::layout::{self, kind_of, query_fields, BODY, CHECKPOINT, CYCLE_AND_DAY, MASKS, ROW};
 use crate::layout::{to_current, REJOIN, ROWS, ROW_SIZE, START};
@@ -25,6 +26,7 @@ pub struct Coverage {
     /// Of histories only.
     pub notices: Notices,
     pub restarts: Restarts,
+    pub evictions: Evictions,
     /// Of histories, and what is refused by 1 of all calls.
     pub doors: Doors,
     /// The same, and accepted starts of all calls.
@@ -45,10 +47,31 @@ impl Coverage {
             high: none,
             notices: Notices::new(),
             restarts: Restarts::new(),
+            evictions: Evictions::new(),
             doors: Doors::new(),
             settings: Settings::new(),
             rosters: Rosters::new(),
         }
+    }
+
+    /// A new history begins.
+    pub fn begin(&mut self) {
+        self.restarts.begin();
+        self.settings.begin();
+        self.evictions.begin();
+    }
+
+    /// Takes up a call of a history, at a host that holds its node by value or through C.
+    pub fn note_event(&mut self, event: &Event, by_value: bool) {
+        let Event {
+            request, outcome, ..
+        } = event;
+        self.note(request, outcome);
+        self.notices.note(request, outcome);
+        self.restarts.note(request, outcome);
+        self.doors.note(request, outcome);
+        self.settings.note(request, outcome);
+        self.evictions.note(event, by_value);
     }
 
     pub fn note(&mut self, request: &Request, outcome: &Outcome) {

@@ -25,6 +25,7 @@ impl Coverage {
         let marks = marks.chain(self.restarts.missing());
         let marks = marks.chain(self.doors.missing());
         let marks = marks.chain(self.settings.missing());
+        let marks = marks.chain(self.evictions.missing());
         let marks = marks.chain(self.rosters.missing());
         calls.chain(kinds).chain(ends).chain(marks).collect()
     }
@@ -62,6 +63,7 @@ impl Coverage {
         lines.extend(self.restarts.summary());
         lines.extend(self.doors.summary());
         lines.extend(self.settings.summary());
+        lines.extend(self.evictions.summary());
         lines.extend(self.rosters.summary());
         lines
     }

@@ -24,7 +24,7 @@ module _ (c : tie.After-notice-refusal) where
       → r ≡ actionRefusal (start .args .s) (start .args .d) (start .args .mask1) (start .args .mask2) (start .args .action)
   arm kind unsigned unfit r e signed fit f =
       judged _ _ _ _ (start .args .action) kind unsigned _ unfit r (of-kind e) signed
-      (c .notice-refusal .ensures (start .args .s) (start .args .d) (start .pre .1)) fit f
+      (c .notice-refusal .ensures (start .args .s) (start .args .d) (start .pre .notice)) fit f
 
 kind-requires : tie.Need-kind-requires
 kind-requires c κs = search needs
@@ -51,31 +51,31 @@ refusal-requires-2 : tie.Need-refusal-requires-2
 refusal-requires-2 c κs = search needs
 
 presents-check-requires : tie.Need-presents-check-requires
-presents-check-requires c κs = (of-kind (c .before) (c .match .keys3), start (c .before) .pre .0)
+presents-check-requires c κs = (of-kind (c .before) (c .match .keys3), start (c .before) .pre .seats)
 
 refusal-requires-3 : tie.Need-refusal-requires-3
 refusal-requires-3 c κs = search needs
 
 certify-check-requires : tie.Need-certify-check-requires
-certify-check-requires c κs = (of-kind (c .before) (c .match .keys4), start (c .before) .pre .0)
+certify-check-requires c κs = (of-kind (c .before) (c .match .keys4), start (c .before) .pre .seats)
 
 refusal-requires-4 : tie.Need-refusal-requires-4
 refusal-requires-4 c κs = search needs
 
 minima-check-requires : tie.Need-minima-check-requires
-minima-check-requires c κs = (of-kind (c .before) (c .match .keys5), start (c .before) .pre .0)
+minima-check-requires c κs = (of-kind (c .before) (c .match .keys5), start (c .before) .pre .seats)
 
 refusal-requires-5 : tie.Need-refusal-requires-5
 refusal-requires-5 c κs = search needs
 
 remove-check-requires : tie.Need-remove-check-requires
-remove-check-requires c κs = (of-kind (c .before) (c .match .keys6), start (c .before) .pre .0)
+remove-check-requires c κs = (of-kind (c .before) (c .match .keys6), start (c .before) .pre .seats)
 
 refusal-requires-6 : tie.Need-refusal-requires-6
 refusal-requires-6 c κs = search needs
 
 rejoin-check-requires : tie.Need-rejoin-check-requires
-rejoin-check-requires c κs = (of-kind (c .before) (c .match .keys7), start (c .before) .pre .0)
+rejoin-check-requires c κs = (of-kind (c .before) (c .match .keys7), start (c .before) .pre .seats)
 
 refusal-requires-7 : tie.Need-refusal-requires-7
 refusal-requires-7 c κs = search needs
@@ -138,7 +138,7 @@ returns-8 : tie.Need-returns-8
 returns-8 c =
     let check = c .before in
     let found = check .before .before in
-    arm found 8 _ _ _ (check .before .match .keys8) (found .before .before .trustee-refusal .ensures) (check .grant-check .ensures) (c .refusal8 .ensures)
+    arm found 8 _ _ _ (check .before .match .keys8) (found .before .before .trustee-refusal .ensures) (check .grant-check .ensures (start found .args .s) (start found .pre .eviction)) (c .refusal8 .ensures)
 
 returns-9 : tie.Need-returns-9
 returns-9 c =

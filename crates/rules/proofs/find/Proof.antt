@@ -17,13 +17,19 @@ subject-requires c κs = search needs
 mature-proposal-requires : tie.Need-mature-proposal-requires
 mature-proposal-requires c κs = search needs
 
+eviction-of-requires : tie.Need-eviction-of-requires
+eviction-of-requires c κs = search needs
+
 returns : tie.Need-returns
 returns c =
-    let seat = c .before .before in
-    let present = seat .before .before in (
-      (present .present-seats .ensures .0, (present .present-seats .ensures .1, rw (← seat .before .seat .ensures) (seat .seat-at .ensures))),
-      rw (← c .before .subject .ensures) (c .mature-proposal .ensures),
-    )
+    let notice = c .before in
+    let seat = notice .before .before in
+    let present = seat .before .before in
+    record {
+      seats = (present .present-seats .ensures .0, (present .present-seats .ensures .1, rw (← seat .before .seat .ensures) (seat .seat-at .ensures)));
+      notice = rw (← notice .before .subject .ensures) (notice .mature-proposal .ensures);
+      eviction = c .eviction-of .ensures;
+    }
 
 pub find-spec : {M : Type 1} → statement M
 find-spec =
@@ -34,4 +40,5 @@ find-spec =
     seat-at-requires
     subject-requires
     mature-proposal-requires
+    eviction-of-requires
     returns)

@@ -6,6 +6,7 @@ use native.Mathlib.Omega.{arith}
 use lib.ListN.{length, set}
 use Rattle.lists.proofs.Tables.{mapped-length}
 use Rattle.state.specs.declared.Seat.{Seat}
+use Rattle.state.specs.declared.State.{State}
 use Rattle.state.specs.Limits.{seatCount}
 use Rattle.state.specs.Time.{nextCycle}
 use Rattle.state.specs.Update.{with}
@@ -32,7 +33,7 @@ begins c =
     let s = start .args .s in
     let d = start .args .a .day in
     let x = start .args .a .action in
-    ⊎-elim (λ w. w .2 ∙ rw (c .before .next .ensures, minima .minima-after .ensures, w .1 .ensures, named .seat .ensures, start .pre .0 .1 .1))
+    ⊎-elim (λ w. w .2 ∙ rw (c .before .next .ensures, minima .minima-after .ensures, w .1 .ensures, named .seat .ensures, start .pre .seats .1 .1))
     (λ w.
     let beyond : length (s .seats) ≤ seatOf x = omega (arith, seat-rows start, w .0 .left, named .seat .ensures) in
     w .1 ∙ rw (c .before .next .ensures, minima .minima-after .ensures)
@@ -55,8 +56,8 @@ next-requires c κs = search needs
 seat-after-requires : tie.Need-seat-after-requires
 seat-after-requires c κs = search needs
 
-mul-t24 : tie.Need-mul-t24
-mul-t24 c = search needs
+mul-t25 : tie.Need-mul-t25
+mul-t25 c = search needs
 
 element-set-from-out : tie.Need-element-set-from-out
 element-set-from-out c = search needs
@@ -65,12 +66,17 @@ enum-known-action : tie.Need-enum-known-action
 enum-known-action c = search needs
 
 grant-login-requires : tie.Need-grant-login-requires
-grant-login-requires c κs = search needs
+grant-login-requires c κs =
+    let case = c .before .before .before in
+    let join = case .before .before in
+    let start = join .before .before .before .before .before .before .before .before in
+    let same = ap (λ (x : State). x .logins) (begins join) in
+    rw same (start .pre .eviction _ (case .action .given .1))
 
 returns : tie.Need-returns
 unfolding advance
 returns c =
-    let case = c .before .before .before in
+    let case = c .before .before .before .before in
     let join = case .before .before in
     let start = join .before .before .before .before .before .before .before .before in
     let a = start .args in
@@ -104,7 +110,7 @@ returns-3 c =
     let start = join .before .before .before .before .before .before .before .before in
     let a = start .args in
     elsewhere (a .s) (a .a .day) (seat-rows start) (a .a .action) (a .found) (join .if1 .out) _ (end .before .match .keys2) (end .match2 .keys2)
-    (start .pre .1) (begins join) (c .proposals-after .ensures)
+    (start .pre .notice) (begins join) (c .proposals-after .ensures)
 
 pub advance-spec : {M : Type 1} → statement M
 advance-spec =
@@ -115,7 +121,7 @@ advance-spec =
     cast-at
     next-requires
     seat-after-requires
-    mul-t24
+    mul-t25
     element-set-from-out
     enum-known-action
     grant-login-requires

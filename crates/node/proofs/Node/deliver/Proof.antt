@@ -145,7 +145,7 @@ shows-quorum-requires : tie.Need-shows-quorum-requires
 shows-quorum-requires c κs =
     let find = c .before .before in
     let else = find .before .before .before .before .before .before .before .before in
-    (is-one else, find .find .ensures .0 .0)
+    (is-one else, find .find .ensures .seats .0)
 
 advance-requires : tie.Need-advance-requires
 advance-requires c κs = search needs

@@ -1,101 +1,34 @@
-use Prim.Native.Nat.{_-_}
-use mathlib.Core.Path.{_≡_, refl, sym, _∙_}
-use native.Mathlib.Omega.{arith}
-use lib.ListN.{length, length-set}
-use borrow.Author.Tests.{eq-eqb, ne-eqb}
-use Rattle.lists.specs.Code.{insertAt}
-use Rattle.lists.proofs.Loops.{insert-turn, insert-end}
-use Rattle.state.specs.Limits.{loginRows}
-use Rattle.tables.proofs.Grants.{grant-full, grant-replaces, grant-inserts}
+use mathlib.Core.Path.{_≡_, sym, ap, _∙_}
+use mathlib.Core.Logic.{⊎-elim}
+use Rattle.tables.specs.declared.Eviction.{Eviction}
+use Rattle.tables.specs.Logins.{needsRow, earliestRow, makeRoom, grantLogin}
 use borrow.Author.Needs.{needs}
 use Rattle.tables.proofs.logins.grant_login.Statement.{statement}
 use Rattle.tables.proofs.logins.grant_login.Tie as tie
 
-abbrev Inv-loop : tie.InvT-loop
-Inv-loop at out₀ next₀ i₀ out next i = (length out ≡ loginRows) × (insertAt i next out ≡ insertAt at next₀ out₀)
+-- whether a row is needed, as it was found
+found : (c : tie.Start) → needsRow (c .args .x .login) (c .args .rows) ≡ c .args .eviction .needed
+found c = ap (λ (v : Eviction). v .needed) (sym (c .pre))
 
-abbrev μ-loop : tie.MeasureT-loop
-μ-loop at out₀ next₀ i₀ out next i = loginRows - i
+end-login-requires : tie.Need-end-login-requires
+end-login-requires c κs = search needs
 
-place-of-requires : tie.Need-place-of-requires Inv-loop μ-loop
-place-of-requires c κs = search needs
+add-login-requires : tie.Need-add-login-requires
+add-login-requires c κs = search needs
 
-returns : tie.Need-returns Inv-loop μ-loop
-returns c =
-    let b = c .before in
-    grant-full (b .before .args .x) (b .before .args .rows) (b .place-of .result) (search needs) (b .place-of .ensures) (c .if1 .taken)
+-- the table once there is room
+room : (c : tie.Joined1) → c .if1 .left ≡ makeRoom (c .before .args .x .login) (c .before .args .rows)
+unfolding makeRoom
+room c =
+    let start = c .before in
+    ⊎-elim (λ w.
+    let needed = found start ∙ w .0 .taken in
+    let row : start .args .eviction .row ≡ earliestRow (start .args .rows) = rw needed at (ap (λ (v : Eviction). v .row) (start .pre)) in
+    rw (needed, ← row) (w .3 ∙ w .2 .ensures)) (λ w. rw (found start ∙ w .0 .left) (w .1)) (c .if1 .came)
 
-mul-named : tie.Need-mul-named Inv-loop μ-loop
-mul-named c = search needs
-
-array-copy-out-named : tie.Need-array-copy-out-named Inv-loop μ-loop
-array-copy-out-named c = search needs
-
-mul-out : tie.Need-mul-out Inv-loop μ-loop
-mul-out c = search needs
-
-array-set-from-out : tie.Need-array-set-from-out Inv-loop μ-loop
-array-set-from-out c = search needs
-
-returns-2 : tie.Need-returns-2 Inv-loop μ-loop
-returns-2 c =
-    let b = c .before .before .before .before .before in
-    grant-replaces (b .before .args .x) (b .before .args .rows) (b .place-of .result) (search needs) (b .place-of .ensures) (eq-eqb _ _ (c .if2 .taken))
-
-loop-holds : tie.Need-loop-holds Inv-loop μ-loop
-loop-holds c = (search needs, refl)
-
-mul-row : tie.Need-mul-row Inv-loop μ-loop
-mul-row c = search needs
-
-array-copy-out-row : tie.Need-array-copy-out-row Inv-loop μ-loop
-array-copy-out-row c = search needs
-
-mul-out-2 : tie.Need-mul-out-2 Inv-loop μ-loop
-mul-out-2 c = search needs
-
-array-set-from-out-2 : tie.Need-array-set-from-out-2 Inv-loop μ-loop
-array-set-from-out-2 c = search needs
-
-add-i : tie.Need-add-i Inv-loop μ-loop
-add-i c = search needs
-
-loop-less : tie.Need-loop-less Inv-loop μ-loop
-loop-less c = search needs
-
-loop-again : tie.Need-loop-again Inv-loop μ-loop
-loop-again c =
-    let b = c .before .before in
-    (simp length-set (b .loop .inv .0), insert-turn (b .loop .next) (b .loop .out) (b .loop .i) _ (omega arith) ∙ b .loop .inv .1)
-
-returns-3 : tie.Need-returns-3 Inv-loop μ-loop
-returns-3 c =
-    let l = c .before in
-    let new = l .before in
-    let b = new .before .before .before .before .before in
-    sym (insert-end (l .loop .next) (l .loop .out) (l .loop .i) (omega arith)) ∙ l .loop .inv .1
-    ∙ grant-inserts (b .before .args .x) (b .before .args .rows) (b .place-of .result) (search needs) (b .place-of .ensures)
-    (ne-eqb _ _ (new .if2 .left))
+returns : tie.Need-returns
+unfolding grantLogin
+returns c = rw (← room (c .before)) (c .add-login .ensures)
 
 pub grant-login-spec : {M : Type 1} → statement M
-grant-login-spec =
-    tie.close
-    (tie.spec
-    Inv-loop
-    μ-loop
-    place-of-requires
-    returns
-    mul-named
-    array-copy-out-named
-    mul-out
-    array-set-from-out
-    returns-2
-    loop-holds
-    mul-row
-    array-copy-out-row
-    mul-out-2
-    array-set-from-out-2
-    add-i
-    loop-less
-    loop-again
-    returns-3)
+grant-login-spec = tie.close (tie.spec end-login-requires add-login-requires returns)

@@ -1,4 +1,4 @@
--- A grant as the code does it: the index of the row's place, and then the row there or before it.
+-- A row added as the code does it: the index of the row's place, and then the row there or before it.
 use mathlib.Core.Path.{_≡_, refl, sym, ap, _∙_}
 use mathlib.Core.Bool.{Bool, true, false, cond, not, _||_}
 use mathlib.Core.List.{List, [], _∷_}
@@ -13,7 +13,7 @@ use Rattle.lists.proofs.Loops.{insert-end}
 use Rattle.state.specs.Limits.{loginRows}
 use Rattle.state.specs.declared.Login.{Login}
 use Rattle.state.specs.Rows.{noLogin, isLogin}
-use Rattle.tables.specs.Logins.{isNamed, insertLogin, grantLogin}
+use Rattle.tables.specs.Logins.{isNamed, insertLogin, addLogin}
 use Rattle.tables.specs.Code.{isPlace}
 
 -- x in the place of row i if that has its name, or else before it
@@ -39,18 +39,18 @@ cut-insert x (r ∷ rs) = at (isNamed (x .login) r) (not (isLogin r) || ltb (x .
 
 -- The three ways in which the code ends: no place is left, the row there has the name of the new one, or it has another.
 module _ (x : Login) (rows : List Login) (i : ℕ) (long : length rows ≡ loginRows) (found : i ≡ indexOf (isPlace (x .login)) rows) where
-  grant-placed : placed i x rows ≡ grantLogin x rows
-  unfolding grantLogin
-  grant-placed = rw (found, ← long) (sym (cut-insert x rows))
+  add-placed : placed i x rows ≡ addLogin x rows
+  unfolding addLogin
+  add-placed = rw (found, ← long) (sym (cut-insert x rows))
 
-  pub grant-full : loginRows ≤ i → rows ≡ grantLogin x rows
-  grant-full h =
+  pub add-full : loginRows ≤ i → rows ≡ addLogin x rows
+  add-full h =
       sym (cond-cases (λ (l : List Login). l ≡ rows) (isNamed (x .login) (getD rows i noLogin)) (λ e. set-out rows i x (omega arith))
       (λ e. insert-end x rows i (omega arith)))
-      ∙ grant-placed
+      ∙ add-placed
 
-  pub grant-replaces : isNamed (x .login) (getD rows i noLogin) ≡ true → set rows i x ≡ grantLogin x rows
-  grant-replaces e = rw e at grant-placed
+  pub add-replaces : isNamed (x .login) (getD rows i noLogin) ≡ true → set rows i x ≡ addLogin x rows
+  add-replaces e = rw e at add-placed
 
-  pub grant-inserts : isNamed (x .login) (getD rows i noLogin) ≡ false → insertAt i x rows ≡ grantLogin x rows
-  grant-inserts e = rw e at grant-placed
+  pub add-inserts : isNamed (x .login) (getD rows i noLogin) ≡ false → insertAt i x rows ≡ addLogin x rows
+  add-inserts e = rw e at add-placed

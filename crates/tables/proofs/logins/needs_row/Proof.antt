@@ -1,7 +1,7 @@
 use mathlib.Core.Path.{sym, _∙_}
 use borrow.Author.Needs.{needs}
-use Rattle.tables.proofs.logins.lacks_row.Statement.{statement}
-use Rattle.tables.proofs.logins.lacks_row.Tie as tie
+use Rattle.tables.proofs.logins.needs_row.Statement.{statement}
+use Rattle.tables.proofs.logins.needs_row.Tie as tie
 
 logins-full-requires : tie.Need-logins-full-requires
 logins-full-requires c κs = search needs
@@ -17,5 +17,5 @@ returns c =
 returns-2 : tie.Need-returns-2
 returns-2 c = rw (sym (c .before .logins-full .ensures) ∙ c .if1 .left)
 
-pub lacks-row-spec : {M : Type 1} → statement M
-lacks-row-spec = tie.close (tie.spec logins-full-requires is-listed-requires returns returns-2)
+pub needs-row-spec : {M : Type 1} → statement M
+needs-row-spec = tie.close (tie.spec logins-full-requires is-listed-requires returns returns-2)

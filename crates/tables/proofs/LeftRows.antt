@@ -165,9 +165,6 @@ module _ {Ok : Login → Type 0} (z : Ok noLogin) (x : Login) (rows : List Login
       at false e = m
 
   module _ (needed : needsRow (x .login) rows ≡ true) where
-    evicted : Login
-    evicted = earliestRow rows
-
     full : loginsFull rows ≡ true
     full = and-eq-true-iff (loginsFull rows) _ .0 needed .0
 

@@ -33,9 +33,9 @@
  *
  * Return value. The low 8 bits are the answer (ACCESS_NODE_ANSWER): ACCESS_NODE_OK,
  * ACCESS_NODE_VOTED or the number of the refusal. The bits above are a count (ACCESS_NODE_COUNT):
- * the lines of a page, the announcements of a roster or the length of a roster's line that is
- * given; 0 for every refusal and for the other calls. The rules are tried in this order: 1, 2, 22
- * (a page: 23), then the others from the lowest number up.
+ * the lines of a page, the announcements of a roster, the length of a roster's line or the shares
+ * of a key that are given; 0 for every refusal and for the other calls. The rules are tried in this
+ * order: 1, 2, 22 (a page: 23), then the others from the lowest number up.
  *
  * Output. A call writes all that it gives to the front of its output slice, or leaves the slice as
  * it was. A longer slice keeps its tail.
@@ -43,8 +43,8 @@
  * Threads. The library has no variables of its own: calls on different slices may run at once.
  *
  * Work. Each call returns for every input. No loop runs over more than a checkpoint's 1,110 bytes,
- * 64 rows, 32 seats, 16 proposals, the 47 characters of a page's 64 lines or the 34 of a roster's;
- * docs/PERFORMANCE.md has the instructions of each call.
+ * 64 rows, 32 seats, 16 proposals, the 47 characters of a page's 64 lines, the 34 of a roster's or
+ * the 32 bytes of 16 shares; docs/PERFORMANCE.md has the instructions of each call.
  *
  * Stack. ACCESS_NODE_STACK_* is the most that a call was measured to use (tests/stack_use.c), in
  * bytes, rounded up with at least 512 to spare.
@@ -74,9 +74,10 @@ extern "C" {
  * and so have the checkpoint that is written, now of kind 26, and the image. A checkpoint of kind 16
  * is read as before, with notices 7 and 2; an image of 1,142 bytes is malformed. In edition 8 a
  * grant into a full list takes the row of a login that is over: no record changes, but the rules do.
- * All nodes of a park run under the same rules: those of editions 1 to 3, of edition 4, of 5, of 6,
- * of 7, or of 8. */
-#define ACCESS_NODE_EDITION 8
+ * Edition 9 adds node_shares_split and node_shares_merge; nothing else changes in it. All nodes of a
+ * park run under the same rules: those of editions 1 to 3, of edition 4, of 5, of 6, of 7, or of 8
+ * and 9. */
+#define ACCESS_NODE_EDITION 9
 
 /* Sizes of whole records; the earlier checkpoint is that of kind 16. A sheet has 0 to
  * ACCESS_NODE_MOST_ROWS rows. */
@@ -102,6 +103,14 @@ extern "C" {
  * ACCESS_NODE_ROSTER_LINE_SIZE as node_roster_export writes it. */
 #define ACCESS_NODE_ROSTER_LINE_SIZE 28
 #define ACCESS_NODE_ROSTER_MOST_LINES 64
+
+/* The key that seals checkpoints, and each share of it. A key has ACCESS_NODE_FEWEST_SHARES to
+ * ACCESS_NODE_MOST_SHARES shares, and as many of them rebuild it, at most all. */
+#define ACCESS_NODE_KEY_SIZE 32
+#define ACCESS_NODE_FEWEST_SHARES 2
+#define ACCESS_NODE_MOST_SHARES 16
+#define ACCESS_NODE_COEFFICIENTS_SIZE(k) (ACCESS_NODE_KEY_SIZE * ((k)-1))
+#define ACCESS_NODE_SHARES_SIZE(n) (ACCESS_NODE_KEY_SIZE * (n))
 
 /* The kinds of records. Those of announcements are the nine actions. */
 #define ACCESS_NODE_KIND_PROPOSE 1
@@ -147,6 +156,9 @@ extern "C" {
 #define ACCESS_NODE_NO_PAGE_ROOM 23  /* the output slice is too short for the page */
 #define ACCESS_NODE_BAD_ROSTER 24    /* the roster is malformed or too long, or no such grant */
 #define ACCESS_NODE_NO_ROSTER_ROOM 25 /* the output slice is too short for the grants or the line */
+#define ACCESS_NODE_OUT_OF_RANGE 26  /* k or n is not from 2 to 16, or k is above n */
+#define ACCESS_NODE_BAD_SHARE_NUMBER 27 /* a number of the first k is zero, above n or comes twice */
+#define ACCESS_NODE_TOO_SHORT 28     /* a slice of a split or a merge is too short */
 #define ACCESS_NODE_VOTED 128        /* the node voted for the announcement */
 
 /* The two parts of what a call returned. */
@@ -199,7 +211,7 @@ uint32_t node_checkpoint(const uint8_t *image, size_t image_length,
 uint32_t node_page(const uint8_t *image, size_t image_length, uint32_t day,
                    uint8_t *page_out, size_t page_out_length);
 
-/* The two calls below ask nothing of a node: an office can make them as well.
+/* The next two calls ask nothing of a node: an office can make them as well.
  *
  * Turns a roster (RFC 4180, no header; each line a login, its end date and its rights:
  * docs/FORMATS.md) into grant announcements of ACCESS_NODE_ANNOUNCEMENT_SIZE bytes each, one for
@@ -217,6 +229,33 @@ uint32_t node_roster_import(const uint8_t *roster, size_t roster_length,
 #define ACCESS_NODE_STACK_ROSTER_EXPORT 1024
 uint32_t node_roster_export(const uint8_t *announcement, size_t announcement_length,
                             uint8_t *line_out, size_t line_out_length);
+
+/* The two calls below are for the trustees' own computer, and ask nothing of a node. They look into
+ * tables at places that depend on the key: how long they take, and what they leave in the
+ * processor's caches, is not covered.
+ *
+ * Splits a key among n trustees so that any k of them rebuild it (Shamir's scheme, byte by byte in
+ * the field of 256 elements with polynomial 0x11B). Each key byte has k-1 coefficients, in rising
+ * degree, key byte by key byte: draw ACCESS_NODE_COEFFICIENTS_SIZE(k) bytes from the system's random
+ * source for each split, and clear them after it. Whoever knows them and one share knows the key.
+ * Shares are written from share 1 to share n. Longer input slices count by their front.
+ * Refusals: 26, 28. Writes the shares with 0; ACCESS_NODE_COUNT is their number, n. */
+#define ACCESS_NODE_STACK_SHARES_SPLIT 2048
+uint32_t node_shares_split(const uint8_t *key, size_t key_length,
+                           uint32_t k, uint32_t n,
+                           const uint8_t *coefficients, size_t coefficients_length,
+                           uint8_t *shares_out, size_t shares_out_length);
+
+/* Gives the key of the first k shares. Number j, a byte from 1 to n, is that of the 32 bytes at
+ * place j of the shares; any order will do. Nothing tells a wrong share from a right one: a key is
+ * given, whether it is the right one or not.
+ * Refusals: 26, 27 (judged on the numbers that are there, where they are fewer than k), 28. Writes
+ * the key with 0. */
+#define ACCESS_NODE_STACK_SHARES_MERGE 2048
+uint32_t node_shares_merge(uint32_t k, uint32_t n,
+                           const uint8_t *numbers, size_t numbers_length,
+                           const uint8_t *shares, size_t shares_length,
+                           uint8_t *key_out, size_t key_out_length);
 
 #ifdef __cplusplus
 }

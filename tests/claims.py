@@ -9,7 +9,7 @@ import sys
 
 ROOT = pathlib.Path(__file__).resolve().parent.parent
 CLAIM = re.compile(r"`([A-Z][A-Za-z0-9]*)`")
-PAGE = re.compile(r"`(([a-z_]+)/specs/\w+\.antt)`")
+PAGE = re.compile(r"`(([a-z0-9_]+)/specs/\w+\.antt)`")
 
 
 def read(path):

@@ -9,14 +9,15 @@
 #include <ucontext.h>
 
 /* NONE makes no call: it shows what a call would find in use. */
-enum call { START, DELIVER, QUERY, CHECKPOINT, PAGE, IMPORT, EXPORT, NONE, CALLS = NONE };
+enum call { START, DELIVER, QUERY, CHECKPOINT, PAGE, IMPORT, EXPORT, SPLIT, MERGE, NONE, CALLS = NONE };
 
 /* SPARE is what access_node.h promises to leave between the measured and the stated use. */
 enum { INPUTS = 3, LONGEST = 65537, STACK = 65536, FILL = 0xA5, SPARE = 512 };
 
-static const char *const names[CALLS] = {"node_start", "node_deliver",       "node_query",        "node_checkpoint",
-                                         "node_page",  "node_roster_import", "node_roster_export"};
-static const size_t input_counts[CALLS] = {2, 3, 2, 1, 1, 1, 1};
+static const char *const names[CALLS] = {"node_start",         "node_deliver",      "node_query",
+                                         "node_checkpoint",    "node_page",         "node_roster_import",
+                                         "node_roster_export", "node_shares_split", "node_shares_merge"};
+static const size_t input_counts[CALLS] = {2, 3, 2, 1, 1, 1, 1, 2, 2};
 static const size_t stated[CALLS] = {
     [START] = ACCESS_NODE_STACK_START,
     [DELIVER] = ACCESS_NODE_STACK_DELIVER,
@@ -25,13 +26,15 @@ static const size_t stated[CALLS] = {
     [PAGE] = ACCESS_NODE_STACK_PAGE,
     [IMPORT] = ACCESS_NODE_STACK_ROSTER_IMPORT,
     [EXPORT] = ACCESS_NODE_STACK_ROSTER_EXPORT,
+    [SPLIT] = ACCESS_NODE_STACK_SHARES_SPLIT,
+    [MERGE] = ACCESS_NODE_STACK_SHARES_MERGE,
 };
 
 /* The call at hand; the output slice has room for every call, the page of a full list the most. */
 static enum call call;
 static uint8_t in[INPUTS][LONGEST];
 static size_t length[INPUTS];
-static uint32_t day, cycle;
+static uint32_t day, cycle, k, n;
 static uint8_t out[ACCESS_NODE_PAGE_SIZE(ACCESS_NODE_MOST_LOGINS)];
 static size_t room;
 
@@ -54,6 +57,10 @@ static void make(void) {
         node_roster_import(in[0], length[0], cycle, day, out, room);
     else if (call == EXPORT)
         node_roster_export(in[0], length[0], out, room);
+    else if (call == SPLIT)
+        node_shares_split(in[0], length[0], k, n, in[1], length[1], out, room);
+    else if (call == MERGE)
+        node_shares_merge(k, n, in[0], length[0], in[1], length[1], out, room);
 }
 
 static void make_on_stack(void) {
@@ -113,7 +120,7 @@ static uint32_t number_at(const uint8_t *bytes) {
 }
 
 /* The next call: its number, three lengths, then the slices; the day of a page stands as a second slice, the day and the cycle of a roster as
- * one too. 0 at the end of the input. */
+ * one too, k and n of shares as a third. 0 at the end of the input. */
 static int read_call(void) {
     uint8_t head[4 * (1 + INPUTS)];
     size_t numbers[1 + INPUTS], got = fread(head, 1, sizeof head, stdin);
@@ -133,6 +140,8 @@ static int read_call(void) {
     call = (enum call)numbers[0];
     day = number_at(in[1]);
     cycle = number_at(in[1] + 4);
+    k = number_at(in[2]);
+    n = number_at(in[2] + 4);
     return 1;
 }
 
@@ -151,7 +160,9 @@ int main(void) {
     int good = 1;
     for (size_t c = 0; c < CALLS; c++)
         good &= is_stated((enum call)c);
-    printf("stack use over %zu calls: start %zu, deliver %zu, query %zu, checkpoint %zu, page %zu, import %zu, export %zu bytes\n", calls,
-           deepest[START], deepest[DELIVER], deepest[QUERY], deepest[CHECKPOINT], deepest[PAGE], deepest[IMPORT], deepest[EXPORT]);
+    printf("stack use over %zu calls: start %zu, deliver %zu, query %zu, checkpoint %zu, page %zu, import %zu, export %zu, split %zu, "
+           "merge %zu bytes\n",
+           calls, deepest[START], deepest[DELIVER], deepest[QUERY], deepest[CHECKPOINT], deepest[PAGE], deepest[IMPORT], deepest[EXPORT],
+           deepest[SPLIT], deepest[MERGE]);
     return !good;
 }

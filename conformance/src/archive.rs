@@ -63,6 +63,26 @@ mod c {
             line_out: *mut u8,
             line_out_length: usize,
         ) -> u32;
+        pub fn node_shares_split(
+            key: *const u8,
+            key_length: usize,
+            k: u32,
+            n: u32,
+            coefficients: *const u8,
+            coefficients_length: usize,
+            shares_out: *mut u8,
+            shares_out_length: usize,
+        ) -> u32;
+        pub fn node_shares_merge(
+            k: u32,
+            n: u32,
+            numbers: *const u8,
+            numbers_length: usize,
+            shares: *const u8,
+            shares_length: usize,
+            key_out: *mut u8,
+            key_out_length: usize,
+        ) -> u32;
     }
 }
 
@@ -86,10 +106,12 @@ mod c {
         node_page: *const u8, usize, u32, *mut u8, usize;
         node_roster_import: *const u8, usize, u32, u32, *mut u8, usize;
         node_roster_export: *const u8, usize, *mut u8, usize;
+        node_shares_split: *const u8, usize, u32, u32, *const u8, usize, *mut u8, usize;
+        node_shares_merge: u32, u32, *const u8, usize, *const u8, usize, *mut u8, usize;
     }
 }
 
-// Why the seven calls are sound: the header (access_node.h) asks for non-null pointers of the given
+// Why the nine calls are sound: the header (access_node.h) asks for non-null pointers of the given
 // lengths, also where a length is 0, and for slices that do not overlap. A pointer taken from a
 // Rust slice is never null and is good for the slice's length. `out` is borrowed exclusively, so it
 // shares no byte with an input. The calls keep no pointer, so nothing outlives the borrows.
@@ -169,6 +191,36 @@ pub fn node_roster_export(announcement: &[u8], out: &mut [u8]) -> u32 {
         c::node_roster_export(
             announcement.as_ptr(),
             announcement.len(),
+            out.as_mut_ptr(),
+            out.len(),
+        )
+    }
+}
+
+pub fn node_shares_split(key: &[u8], k: u32, n: u32, coefficients: &[u8], out: &mut [u8]) -> u32 {
+    unsafe {
+        c::node_shares_split(
+            key.as_ptr(),
+            key.len(),
+            k,
+            n,
+            coefficients.as_ptr(),
+            coefficients.len(),
+            out.as_mut_ptr(),
+            out.len(),
+        )
+    }
+}
+
+pub fn node_shares_merge(k: u32, n: u32, numbers: &[u8], shares: &[u8], out: &mut [u8]) -> u32 {
+    unsafe {
+        c::node_shares_merge(
+            k,
+            n,
+            numbers.as_ptr(),
+            numbers.len(),
+            shares.as_ptr(),
+            shares.len(),
             out.as_mut_ptr(),
             out.len(),
         )

@@ -1,14 +1,17 @@
 //! The records of document 01 and requests A5 to A7 as one table: the fields of each in the order of
 //! their bytes, their sizes and ranges. Where the parts of checkpoints and images stand is in `places`,
-//! the line of a page and that of a roster in `lines`. What writes, shows and damages records takes them
-//! from here; the second implementation and the version for speed have their own.
+//! the line of a page and that of a roster in `lines`, the slices of shares in `shares`. What writes,
+//! shows and damages records takes them from here; the second implementation and the version for speed
+//! have their own.
 
 mod lines;
 mod places;
+mod shares;
 
 pub use lines::{announcements_size, lines, roster_line_size, roster_lines, LINE_SIZE, WORD};
 pub use places::{to_current, to_old, Table, CHECKPOINT_SIZE, IMAGE_SIZE, LOGINS, MISSES_AT};
 pub use places::{NOTICES_AT, OLD_CHECKPOINT_SIZE, PROPOSALS, SEATS, VOTE, VOTED_AT};
+pub use shares::{coefficients_size, pairs, shares_size, KEY_SIZE, LEAST_SHARES, MOST_SHARES};
 
 /// How a field's value stands in the text.
 #[derive(Debug, Clone, Copy, PartialEq, Eq)]

@@ -9,6 +9,7 @@ pub mod bytes;
 pub mod calendar;
 pub mod checkpoint;
 pub mod csv;
+pub mod field;
 pub mod image;
 pub mod node;
 pub mod page;
@@ -17,6 +18,7 @@ pub mod records;
 pub mod roster;
 pub mod rules;
 pub mod run;
+pub mod shares;
 pub mod start;
 pub mod state;
 
@@ -30,7 +32,8 @@ pub enum Answer {
     Voted,
     Done,
     Open,
-    /// A checkpoint, a page, the announcements of a roster or a line of one was given.
+    /// A checkpoint, a page, the announcements of a roster or a line of one, shares or their key were
+    /// given.
     Given,
     /// A number of the table of no.
     No(u8),

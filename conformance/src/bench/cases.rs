@@ -4,7 +4,8 @@ use crate::compare::call::{given, Records, VOTED};
 use crate::compare::fields::{Login, Notices, OwnFields, Proposal, Seat, StateFields};
 use crate::compare::fields::{FREE, PRESENT};
 use crate::compare::make::records;
-use crate::layout::{roster_line_size, to_old, LOGINS, MINIMA_KIND, SUBJECT_SIZE};
+use crate::layout::{coefficients_size, roster_line_size, shares_size, to_old, KEY_SIZE};
+use crate::layout::{LOGINS, MINIMA_KIND, SUBJECT_SIZE};
 
 pub struct Case {
     pub name: &'static str,
@@ -18,7 +19,7 @@ const CYCLE: u32 = 1_000;
 const DAY: u32 = 20_000;
 const LIFE: u32 = 7;
 
-/// How much of the tables is used, and the rows of a sheet with a quorum.
+/// How much of the tables is used, the rows of a sheet with a quorum, and k and n of a key's shares.
 pub struct Size {
     pub name: &'static str,
     seats: u8,
@@ -26,6 +27,9 @@ pub struct Size {
     proposals: u8,
     logins: u32,
     rows: u8,
+    /// Of a key: the shares, and how many of them give it back.
+    shares: u32,
+    needed: u32,
 }
 
 pub const FULL: Size = Size {
@@ -35,6 +39,8 @@ pub const FULL: Size = Size {
     proposals: 16,
     logins: 64,
     rows: 64,
+    shares: 16,
+    needed: 16,
 };
 
 pub const SMALL: Size = Size {
@@ -44,6 +50,8 @@ pub const SMALL: Size = Size {
     proposals: 3,
     logins: 2,
     rows: 2,
+    shares: 3,
+    needed: 2,
 };
 
 impl Size {
@@ -96,6 +104,8 @@ impl Size {
             self.case("import", self.import(""), lines),
             self.case("import: quoted", self.import("\""), lines),
             self.case("export", Records::Export(grant), given(line_size)),
+            self.case("split", self.split(), given(self.shares as usize)),
+            self.case("merge", self.merge(), 0),
         ]);
         cases
     }
@@ -161,6 +171,26 @@ impl Size {
         }
     }
 
+    fn split(&self) -> Records {
+        Records::Split {
+            key: some_bytes(KEY_SIZE),
+            k: self.needed,
+            n: self.shares,
+            coefficients: some_bytes(coefficients_size(self.needed)),
+        }
+    }
+
+    /// Of the last shares, the last first.
+    fn merge(&self) -> Records {
+        let numbers = (1..=self.shares as u8).rev();
+        Records::Merge {
+            k: self.needed,
+            n: self.shares,
+            numbers: numbers.take(self.needed as usize).collect(),
+            shares: some_bytes(shares_size(self.needed)),
+        }
+    }
+
     /// The image that every case begins with.
     pub fn image(&self) -> Vec<u8> {
         let own = OwnFields {
@@ -185,6 +215,11 @@ impl Size {
         let rows: Vec<(u8, u32)> = (0..rows).map(|i| (i % self.seats, LIFE)).collect();
         Records::Deliver(announcement.to_vec(), records::sheet([255, 255], &rows))
     }
+}
+
+/// Bytes of a key, of coefficients or of shares, one in 256 of them 0.
+fn some_bytes(count: usize) -> Vec<u8> {
+    (0..count).map(|place| (place * 151 + 87) as u8).collect()
 }
 
 fn seat(present: bool) -> Seat {

@@ -20,6 +20,8 @@ pub const TUNED: Calls = Calls {
     page: tuned::node_page,
     import: tuned::node_roster_import,
     export: tuned::node_roster_export,
+    split: tuned::node_shares_split,
+    merge: tuned::node_shares_merge,
 };
 
 /// An output slice that has room in every case: for the page of a full list.

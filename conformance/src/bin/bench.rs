@@ -25,6 +25,7 @@ checkpoint
 page
 import, import: quoted
 export
+split, merge (full: 16 of 16, small: 2 of 3)
 
 Exit status: 0; 2 wrong use, or the archive is missing.
 ",

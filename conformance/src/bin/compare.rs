@@ -15,9 +15,9 @@ const PROGRAM: Program = Program {
        compare [--node-run PATH] [--fault NAME] --replay FILE
        compare --faults",
     help: "Compares the shipped archive with the second implementation on random histories of a park and
-on damaged input, COUNT calls in all, then on rosters, a tenth as many, and on pages and rosters with
-every date; the same SEED gives the same calls. A difference is shortened, shown and kept in a new file
-compare-failure-SEED.txt.
+on damaged input, COUNT calls in all, then on rosters, a tenth as many, on shares of a key, a
+twentieth, on every product of their field, and on pages and rosters with every date; the same SEED
+gives the same calls. A difference is shortened, shown and kept in a new file compare-failure-SEED.txt.
 
   --node-run PATH  compares the program node-run too
   --replay FILE    shows a kept case step by step
@@ -141,14 +141,16 @@ fn compare(options: &Options, seed: u64, count: u64) -> ExitCode {
     ExitCode::from(NOT_ALL_MET)
 }
 
-/// A fifth each of requests that stand alone and of damaged input, then histories, then rosters and
-/// every date.
+/// A fifth each of requests that stand alone and of damaged input, then histories, then rosters, shares
+/// of keys, every product and every date.
 fn all_stages(stages: &mut Stages, rng: &mut Random, count: u64) -> Result<(), Found> {
     stages.lone_requests(rng, count / 5)?;
     stages.damaged(rng, count / 5 * 2)?;
     stages.histories(rng, count)?;
     stages.damaged_rosters(rng)?;
     stages.rosters(rng, count + count / 10)?;
+    stages.shares(rng, count + count / 10 + count / 20)?;
+    stages.products()?;
     stages.dates()
 }
 

@@ -113,7 +113,13 @@ fn print_streams(node_run: &Path) -> Result<Printed, String> {
 /// What was needed to find a difference.
 fn all_stages(stages: &mut Stages, printed: &Printed) -> Option<String> {
     let mut rng = Random::new(SEED);
-    if stages.rosters(&mut rng, 0).is_err() || stages.lone_requests(&mut rng, 4_000).is_err() {
+    let first = |stages: &mut Stages, rng: &mut Random| -> Result<(), Found> {
+        stages.rosters(rng, 0)?;
+        stages.lone_requests(rng, 4_000)?;
+        stages.shares(rng, 0)?;
+        stages.products()
+    };
+    if first(stages, &mut rng).is_err() {
         return Some(calls(stages));
     }
     if let Some(place) = printed.iter().position(differs) {
@@ -126,7 +132,8 @@ fn all_stages(stages: &mut Stages, printed: &Printed) -> Option<String> {
         stages.histories(rng, 250_000)?;
         stages.lone_requests(rng, LIMIT)?;
         stages.damaged_rosters(rng)?;
-        stages.rosters(rng, LIMIT + LIMIT / 10)
+        stages.rosters(rng, LIMIT + LIMIT / 10)?;
+        stages.shares(rng, LIMIT + LIMIT / 10 + LIMIT / 20)
     };
     rest(stages, &mut rng).is_err().then(|| calls(stages))
 }

@@ -1,10 +1,11 @@
-//! Calls: their inputs, their output slices, what of it they write, and the seven functions of an
+//! Calls: their inputs, their output slices, what of it they write, and the nine functions of an
 //! implementation that make them.
 
 use crate::archive;
-use crate::layout::{self, CHECKPOINT_SIZE, IMAGE_SIZE, LINE_SIZE};
+use crate::layout::{self, CHECKPOINT_SIZE, IMAGE_SIZE, KEY_SIZE, LINE_SIZE};
 
-/// What is handed to a call beside the image: records, the day of a page, a roster with its numbers.
+/// What is handed to a call beside the image: records, the day of a page, a roster with its numbers, a
+/// key or shares of one with theirs.
 #[derive(Clone, PartialEq, Debug)]
 pub enum Records {
     /// A checkpoint and a start.
@@ -22,6 +23,18 @@ pub enum Records {
     },
     /// An announcement.
     Export(Vec<u8>),
+    Split {
+        key: Vec<u8>,
+        k: u32,
+        n: u32,
+        coefficients: Vec<u8>,
+    },
+    Merge {
+        k: u32,
+        n: u32,
+        numbers: Vec<u8>,
+        shares: Vec<u8>,
+    },
 }
 
 /// A call of a history: at a host, with an output slice of `out` bytes.
@@ -66,7 +79,7 @@ pub struct Event {
 
 pub const VOTED: u32 = 128;
 
-pub const CALLS: [&str; 7] = [
+pub const CALLS: [&str; 9] = [
     "start",
     "deliver",
     "query",
@@ -74,6 +87,8 @@ pub const CALLS: [&str; 7] = [
     "page",
     "import",
     "export",
+    "split",
+    "merge",
 ];
 
 /// The answers that each call can give, in the order of `CALLS`.
@@ -84,7 +99,9 @@ pub fn possible_answers(call: usize) -> Vec<u32> {
         2 => vec![0, 1, 3, 17, 18, 19, 20, 21, 22],
         3 => vec![0, 1, 22],
         4 => vec![0, 1, 23],
-        _ => vec![0, 24, 25],
+        5 | 6 => vec![0, 24, 25],
+        7 => vec![0, 26, 28],
+        _ => vec![0, 26, 27, 28],
     }
 }
 
@@ -98,14 +115,15 @@ pub fn count_in(returned: u32) -> u32 {
     returned >> 8
 }
 
-/// What a call returns that gives so many lines, announcements or bytes.
+/// What a call returns that gives so many lines, announcements, bytes or shares.
 pub fn given(count: usize) -> u32 {
     (count as u32) << 8
 }
 
 /// Whether a call of `CALLS` that answers `number` writes its output: "A call that starts, votes,
 /// performs, answers open or adds a miss writes a whole image", a checkpoint call its checkpoint, a
-/// page call its page, an import its announcements, an export its line.
+/// page call its page, an import its announcements, an export its line, a split its shares, a merge its
+/// key.
 pub fn writes(call: usize, number: u32) -> bool {
     let adds_miss = call == 2 && (19..=21).contains(&number);
     number == 0 || number == VOTED || adds_miss
@@ -122,6 +140,8 @@ impl Records {
             Records::Page(_) => 4,
             Records::Import { .. } => 5,
             Records::Export(_) => 6,
+            Records::Split { .. } => 7,
+            Records::Merge { .. } => 8,
         }
     }
 
@@ -147,21 +167,22 @@ impl Records {
             Records::Page(_) => LINE_SIZE * layout::lines(image),
             Records::Import { roster, .. } => layout::announcements_size(roster),
             Records::Export(announcement) => layout::roster_line_size(announcement),
+            Records::Split { n, .. } => layout::shares_size(*n),
+            Records::Merge { .. } => KEY_SIZE,
             _ => IMAGE_SIZE,
         }
     }
 
     /// Whether the call takes an image.
     pub fn takes_image(&self) -> bool {
-        !matches!(
-            self,
-            Records::Start(..) | Records::Import { .. } | Records::Export(_)
-        )
+        self.is_of_node() && !matches!(self, Records::Start(..))
     }
 
-    /// Whether the call makes, asks or tells of a node; the calls of rosters don't.
+    /// Whether the call makes, asks or tells of a node; the calls of rosters and of shares don't.
     pub fn is_of_node(&self) -> bool {
-        !matches!(self, Records::Import { .. } | Records::Export(_))
+        let is_of_roster = matches!(self, Records::Import { .. } | Records::Export(_));
+        let is_of_shares = matches!(self, Records::Split { .. } | Records::Merge { .. });
+        !is_of_roster && !is_of_shares
     }
 
     /// Whether the call leaves the node as it is: what it writes is no image.
@@ -183,8 +204,10 @@ impl Request {
 }
 
 type Deliver = fn(&[u8], &[u8], &[u8], &mut [u8]) -> u32;
+type Split = fn(&[u8], u32, u32, &[u8], &mut [u8]) -> u32;
+type Merge = fn(u32, u32, &[u8], &[u8], &mut [u8]) -> u32;
 
-/// The seven calls of one implementation, as C sees them.
+/// The nine calls of one implementation, as C sees them.
 pub struct Calls {
     pub name: &'static str,
     pub start: fn(&[u8], &[u8], &mut [u8]) -> u32,
@@ -194,6 +217,8 @@ pub struct Calls {
     pub page: fn(&[u8], u32, &mut [u8]) -> u32,
     pub import: fn(&[u8], u32, u32, &mut [u8]) -> u32,
     pub export: fn(&[u8], &mut [u8]) -> u32,
+    pub split: Split,
+    pub merge: Merge,
 }
 
 /// The shipped static library.
@@ -206,6 +231,8 @@ pub const ARCHIVE: Calls = Calls {
     page: archive::node_page,
     import: archive::node_roster_import,
     export: archive::node_roster_export,
+    split: archive::node_shares_split,
+    merge: archive::node_shares_merge,
 };
 
 impl Calls {
@@ -221,6 +248,18 @@ impl Calls {
             Records::Page(day) => (self.page)(image, *day, out),
             Records::Import { roster, cycle, day } => (self.import)(roster, *cycle, *day, out),
             Records::Export(announcement) => (self.export)(announcement, out),
+            Records::Split {
+                key,
+                k,
+                n,
+                coefficients,
+            } => (self.split)(key, *k, *n, coefficients, out),
+            Records::Merge {
+                k,
+                n,
+                numbers,
+                shares,
+            } => (self.merge)(*k, *n, numbers, shares, out),
         }
     }
 }

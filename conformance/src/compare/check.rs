@@ -13,3 +13,4 @@ mod restarts;
 pub mod rosters;
 pub mod second;
 mod settings;
+pub mod shares;

@@ -1,5 +1,5 @@
 //! The stages of a comparison: requests that stand alone, damaged input, histories with streams,
-//! rosters.
+//! rosters, shares.
 
 use super::call::{Event, History, Request};
 use super::check::claims::{Claims, Tally};
@@ -9,7 +9,7 @@ use super::check::second::Second;
 use super::check::{doors, one_call, program, rerun};
 use super::make::histories::HistoryMaker;
 use super::make::random::Random;
-use super::make::{evictions, lone_requests, rosters, settings, streams, sweeps};
+use super::make::{evictions, lone_requests, rosters, settings, shares, streams, sweeps};
 use super::tell::coverage::Coverage;
 use super::tell::kept_case::Case;
 use super::tell::roster_marks::Mark;
@@ -123,6 +123,22 @@ impl Stages {
             self.single(rosters::any(rng))?;
         }
         Ok(())
+    }
+
+    /// Splits and merges at their edges, then random ones until so many calls were made in all.
+    pub fn shares(&mut self, rng: &mut Random, until: u64) -> Result<(), Found> {
+        for request in shares::edges() {
+            self.single(request)?;
+        }
+        while self.coverage.calls < until {
+            self.single(shares::any(rng))?;
+        }
+        Ok(())
+    }
+
+    /// Every product of the field that a split or a merge can be asked for by itself.
+    pub fn products(&mut self) -> Result<(), Found> {
+        shares::products().try_for_each(|request| self.single(request))
     }
 
     /// Rosters damaged at every byte, cut at every length, with output slices of every length.

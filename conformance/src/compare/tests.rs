@@ -2,6 +2,7 @@
 
 mod evictions;
 mod settings;
+mod shares;
 
 use super::call::{answer_in, count_in, Event, Outcome, Records, Request};
 use super::check::claims::{Claims, Tally};
@@ -9,7 +10,7 @@ use super::check::doors::{same_at, Step};
 use super::check::rerun;
 use super::check::rosters::round_trip;
 use super::fields::{Login, OwnFields, Proposal, StateFields};
-use super::make::{records, rosters};
+use super::make::{self, records, rosters};
 use super::{random_history, Case, Random, FAULTY, PAPER};
 use crate::faulty;
 use crate::layout::{kind_of, read, BODY, CYCLE_AND_DAY, DOORS, IMAGE_SIZE, LINE_SIZE};
@@ -91,9 +92,11 @@ fn cases_read_back() {
         let stream = Case::Stream(history.first.clone());
         let mut rng = Random::new(seed);
         let rosters = [(); 9].map(|()| Case::Single(rosters::any(&mut rng)));
+        let shares = [(); 9].map(|()| Case::Single(make::shares::any(&mut rng)));
         for case in [Case::History(history), start, page, stream]
             .into_iter()
             .chain(rosters)
+            .chain(shares)
         {
             assert_eq!(Case::read(&case.write()), Ok(case));
         }

@@ -1,8 +1,8 @@
-//! The seven calls as C sees them, with the slices and the numbers that the text gives them.
+//! The nine calls as C sees them, with the slices and the numbers that the text gives them.
 
 use super::answer::Answer;
 use crate::compare::call::{answer_in, possible_answers, writes, Calls, CALLS, VOTED};
-use crate::layout::{self, CHECKPOINT_SIZE, IMAGE_SIZE, LINE_SIZE};
+use crate::layout::{self, CHECKPOINT_SIZE, IMAGE_SIZE, KEY_SIZE, LINE_SIZE};
 
 #[derive(Clone, Copy, PartialEq, Eq, Debug)]
 pub enum Sort {
@@ -13,11 +13,15 @@ pub enum Sort {
     Page,
     Import,
     Export,
+    Split,
+    Merge,
 }
 
-use Sort::{Checkpoint, Deliver, Export, Import, Page, Query, Start};
+use Sort::{Checkpoint, Deliver, Export, Import, Merge, Page, Query, Split, Start};
 
-pub const SORTS: [Sort; 7] = [Start, Deliver, Query, Checkpoint, Page, Import, Export];
+pub const SORTS: [Sort; 9] = [
+    Start, Deliver, Query, Checkpoint, Page, Import, Export, Split, Merge,
+];
 
 impl Sort {
     pub fn name(self) -> &'static str {
@@ -26,7 +30,7 @@ impl Sort {
 
     /// How many records its request has in the text.
     pub fn records(self) -> usize {
-        [2, 2, 1, 0, 0, 1, 1][self as usize]
+        [2, 2, 1, 0, 0, 1, 1, 2, 2][self as usize]
     }
 
     /// The number for an output slice that is too short.
@@ -34,13 +38,14 @@ impl Sort {
         match self {
             Page => 23,
             Import | Export => 25,
+            Split | Merge => 28,
             _ => 22,
         }
     }
 
     /// Whether an image is its first slice.
     pub fn takes_image(self) -> bool {
-        !matches!(self, Start | Import | Export)
+        matches!(self, Deliver | Query | Checkpoint | Page)
     }
 
     /// Whether the call writes its output where it returns this number.
@@ -48,9 +53,20 @@ impl Sort {
         writes(self as usize, answer_in(returned))
     }
 
-    /// Whether it gives a count: what it writes then stands in the text.
+    /// Whether what it gives stands in the text.
+    pub fn is_told(self) -> bool {
+        matches!(self, Page | Import | Export | Split | Merge)
+    }
+
+    /// Whether it gives a count.
     pub fn counts(self) -> bool {
-        matches!(self, Page | Import | Export)
+        self.is_told() && self != Merge
+    }
+
+    /// Whether it is one of shares (request A9): its slices are no records, may be longer than needed
+    /// and are never malformed.
+    pub fn is_of_shares(self) -> bool {
+        matches!(self, Split | Merge)
     }
 
     /// Whether what the call writes is an image.
@@ -64,7 +80,7 @@ impl Sort {
             Start => Answer::Started,
             Deliver => Answer::Done,
             Query => Answer::Open,
-            Checkpoint | Page | Import | Export => Answer::Given,
+            _ => Answer::Given,
         };
         let answer = |number| match number {
             0 => good,
@@ -77,7 +93,8 @@ impl Sort {
             .collect()
     }
 
-    /// The number for a malformed slice: 2 for the sheet, 24 in the calls of rosters, 1 for each other.
+    /// The number for a malformed slice: 2 for the sheet, 24 in the calls of rosters, 1 for each other. In
+    /// the calls of shares none is malformed.
     pub fn malformed(self, slice: usize) -> u32 {
         match (self, slice) {
             (Deliver, 2) => 2,
@@ -94,6 +111,9 @@ pub struct Numbers {
     pub cycle: u32,
     /// The day of a page or a roster.
     pub day: u32,
+    /// Of shares: how many give the key, and how many there are.
+    pub k: u32,
+    pub n: u32,
 }
 
 /// A call with its input slices, in the order of C's parameters.
@@ -125,21 +145,34 @@ impl Call {
     }
 
     /// The fewest bytes of an output slice; those of a page depend on the image, those of a roster on
-    /// its lines and those of a line on the login.
+    /// its lines, those of a line on the login and those of shares on their number.
     pub fn room(&self) -> usize {
         match self.sort {
             Checkpoint => CHECKPOINT_SIZE,
             Page => LINE_SIZE * layout::lines(&self.slices[0]),
             Import => layout::announcements_size(&self.slices[0]),
             Export => layout::roster_line_size(&self.slices[0]),
+            Split => layout::shares_size(self.numbers.n),
+            Merge => KEY_SIZE,
             _ => IMAGE_SIZE,
+        }
+    }
+
+    /// The fewest bytes of an input slice in a call of shares.
+    pub fn needed(&self, slice: usize) -> usize {
+        let k = self.numbers.k;
+        match (self.sort, slice) {
+            (Split, 0) => KEY_SIZE,
+            (Split, _) => layout::coefficients_size(k),
+            (_, 0) => k as usize,
+            _ => layout::shares_size(k),
         }
     }
 }
 
 /// Makes a call on these slices, as many as it has.
 pub fn make(by: &Calls, call: &Call, slices: &[&[u8]], out: &mut [u8]) -> u32 {
-    let Numbers { cycle, day } = call.numbers;
+    let Numbers { cycle, day, k, n } = call.numbers;
     match call.sort {
         Start => (by.start)(slices[0], slices[1], out),
         Deliver => (by.deliver)(slices[0], slices[1], slices[2], out),
@@ -148,5 +181,7 @@ pub fn make(by: &Calls, call: &Call, slices: &[&[u8]], out: &mut [u8]) -> u32 {
         Page => (by.page)(slices[0], day, out),
         Import => (by.import)(slices[0], cycle, day, out),
         Export => (by.export)(slices[0], out),
+        Split => (by.split)(slices[0], k, n, slices[1], out),
+        Merge => (by.merge)(k, n, slices[0], slices[1], out),
     }
 }

@@ -63,7 +63,7 @@ impl Checker {
         let returned = answer.number() | given(request.count);
         let made = self.both(call, Slices { room, gap: 0 }, returned)?;
         self.reached.note(sort, answer);
-        if sort.counts() {
+        if sort.is_told() {
             request.require_output(made.written.as_deref())?;
         }
         if room == call.room() {
@@ -99,7 +99,7 @@ impl Checker {
             sweep::rooms(call, number, each)?;
         }
         if first && !sweep::is_malformed(number) {
-            sweep::slices(call, each)?;
+            sweep::slices(call, number, each)?;
         }
         if first {
             self.swept.push(key);
@@ -187,21 +187,27 @@ impl Run {
 }
 
 impl Request {
-    /// What was written is what the text has: lines or announcements, one behind the other.
+    /// What was written is what the text has: lines, announcements, shares or a key, one behind the other.
     fn require_output(&self, written: Option<&[u8]>) -> Result<(), String> {
         let mut rest = written.unwrap_or_default();
         for wanted in &self.output {
             let (piece, behind) = rest.split_at(wanted.len().min(rest.len()));
             if piece != wanted {
-                return Err(format!(
-                    "it writes {}, wanted {}",
-                    shown(piece),
-                    shown(wanted)
-                ));
+                let shown = self.shown();
+                let (piece, wanted) = (shown(piece), shown(wanted));
+                return Err(format!("it writes {piece}, wanted {wanted}"));
             }
             rest = behind;
         }
         Ok(())
+    }
+
+    /// How a piece of its output is shown: bytes of shares in hexadecimal.
+    fn shown(&self) -> fn(&[u8]) -> String {
+        match self.by {
+            By::Call { sort, .. } if sort.is_of_shares() => hexadecimal,
+            _ => shown,
+        }
     }
 
     fn is_in_run(&self) -> bool {
@@ -214,6 +220,11 @@ impl Request {
             By::Call { .. } => None,
         }
     }
+}
+
+fn hexadecimal(piece: &[u8]) -> String {
+    let bytes: Vec<String> = piece.iter().map(|byte| format!("{byte:02x}")).collect();
+    bytes.join(" ")
 }
 
 /// An announcement in the words of `records`, a line between bars.

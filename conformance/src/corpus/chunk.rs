@@ -1,5 +1,5 @@
-//! One record, checkpoint, image or roster of the text: its lines as `records compose` takes them, or
-//! the text of a roster, and the changes of its bytes below them.
+//! One record, checkpoint, image, roster, key or run of shares of the text: its lines as `records compose`
+//! takes them, or the text of a roster, and the changes of its bytes below them.
 
 use crate::text;
 
@@ -36,6 +36,7 @@ pub struct Each {
 #[derive(Debug, Clone)]
 enum Change {
     At(usize, Vec<u8>),
+    More(Vec<u8>),
     Size(usize),
     Each(Each),
 }
@@ -66,12 +67,13 @@ impl Chunk {
         Ok(fits)
     }
 
-    /// A line `at`, `size` or `each` below the chunk.
+    /// A line `at`, `more`, `size` or `each` below the chunk.
     pub fn change(&mut self, line: usize, words: &[&str]) -> Parse<()> {
         let change = match words {
             ["at", place, "bytes", bytes @ ..] => {
                 Change::At(number(line, place)?, hexadecimal(line, bytes)?)
             }
+            ["more", "bytes", bytes @ ..] => Change::More(hexadecimal(line, bytes)?),
             ["size", size] => Change::Size(number(line, size)?.min(LONGEST)),
             ["each", from, "to", to, "bytes", byte] => Change::Each(Each {
                 from: number(line, from)?,
@@ -81,7 +83,7 @@ impl Chunk {
             _ => {
                 return error(
                     line,
-                    "at N bytes .., size N or each N to N bytes .. is expected",
+                    "at N bytes .., more bytes .., size N or each N to N bytes .. is expected",
                 )
             }
         };
@@ -120,6 +122,7 @@ impl Item {
             Change::At(place, bytes) if place + bytes.len() <= size => {
                 self.bytes[*place..place + bytes.len()].copy_from_slice(bytes);
             }
+            Change::More(bytes) => self.bytes.extend(bytes),
             Change::Size(size) => self.bytes.resize(*size, 0),
             Change::Each(each) if each.from <= each.to && each.to < size => {
                 self.each = Some(*each);
@@ -181,7 +184,7 @@ fn escaped(line: usize, text: &str) -> Parse<(u8, usize)> {
 }
 
 /// Bytes of two hexadecimal digits, at least one.
-fn hexadecimal(line: usize, words: &[&str]) -> Parse<Vec<u8>> {
+pub fn hexadecimal(line: usize, words: &[&str]) -> Parse<Vec<u8>> {
     let text = format!("bytes {}", words.join(" "));
     text::compose(&text).or_else(|found| error(line, found.what))
 }

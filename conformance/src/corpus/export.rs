@@ -15,7 +15,7 @@ pub fn only_run(runs: &[Run]) -> Result<&Run, Found> {
 
 /// Every call of the runs: the number of the call from 0 (in the order of `SORTS`) and the lengths of
 /// its slices, three, each in 4 bytes; then the slices. The day of a page stands as a second slice of
-/// 4 bytes, the day and the cycle of a roster as one of 8.
+/// 4 bytes, the day and the cycle of a roster as one of 8, k and n of shares as a third of 8.
 pub fn calls(runs: &[Run]) -> Result<Vec<u8>, Found> {
     let mut out = Vec::new();
     for run in runs {
@@ -29,10 +29,11 @@ pub fn calls(runs: &[Run]) -> Result<Vec<u8>, Found> {
 
 fn push(out: &mut Vec<u8>, call: &Call) {
     let mut slices = call.slices.clone();
-    let Numbers { cycle, day } = call.numbers;
+    let Numbers { cycle, day, k, n } = call.numbers;
     match call.sort {
         Sort::Page => slices.push(day.to_le_bytes().to_vec()),
         Sort::Import => slices.push([day.to_le_bytes(), cycle.to_le_bytes()].concat()),
+        Sort::Split | Sort::Merge => slices.push([k.to_le_bytes(), n.to_le_bytes()].concat()),
         _ => {}
     }
     let length = |place: usize| slices.get(place).map_or(0, Vec::len) as u32;

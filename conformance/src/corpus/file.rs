@@ -2,7 +2,7 @@
 
 use super::answer::Answer;
 use super::call::{Numbers, Sort, SORTS};
-use super::chunk::{between_bars, error, number, Chunk, Item, Parse, LONGEST};
+use super::chunk::{between_bars, error, hexadecimal, number, Chunk, Item, Parse, LONGEST};
 use crate::text;
 use std::collections::HashMap;
 
@@ -35,9 +35,10 @@ pub struct Request {
     pub by: By,
     pub items: Vec<Item>,
     pub answer: Answer,
-    /// The count that is given: of lines, announcements or bytes; 0 for answers without one.
+    /// The count that is given: of lines, announcements, bytes or shares; 0 for answers without one.
     pub count: usize,
-    /// What is given with it: the lines of a page, the announcements of a roster or the line of one.
+    /// What is given with it: the lines of a page, the announcements of a roster or the line of one, shares
+    /// or their key.
     pub output: Vec<Vec<u8>>,
 }
 
@@ -65,12 +66,14 @@ struct Reader {
 
 /// Lines that belong to the chunk above them.
 const BELOW: [&str; 5] = ["seat", "proposal", "login", "own", "voted"];
-const CHANGES: [&str; 3] = ["at", "size", "each"];
+const CHANGES: [&str; 4] = ["at", "size", "each", "more"];
 /// What the lines of a given output begin with.
-const OUTPUTS: [(&str, Sort); 3] = [
+const OUTPUTS: [(&str, Sort); 5] = [
     ("# page:", Sort::Page),
     ("# gives:", Sort::Import),
     ("# line:", Sort::Export),
+    ("# share:", Sort::Split),
+    ("# key:", Sort::Merge),
 ];
 
 pub fn read(text: &str) -> Parse<Vec<Run>> {
@@ -218,14 +221,19 @@ impl Reader {
         by: By,
         words: &'a [&'b str],
     ) -> Parse<(usize, &'a [&'b str])> {
-        let sort = by.sort().filter(|sort| sort.counts());
-        match (sort, words) {
-            (Some(sort), ["given", count]) => {
+        match (by.sort(), words) {
+            (Some(sort), ["given", count]) if sort.counts() => {
                 let count = number(line, count)?;
                 self.awaited = if sort == Sort::Export { 1 } else { count };
                 Ok((count, &words[..1]))
             }
-            (Some(_), ["given"]) => error(line, "given and a number is expected"),
+            (Some(sort), ["given"]) if sort.counts() => {
+                error(line, "given and a number is expected")
+            }
+            (Some(Sort::Merge), ["given"]) => {
+                self.awaited = 1;
+                Ok((0, words))
+            }
             _ => Ok((0, words)),
         }
     }
@@ -235,6 +243,9 @@ impl Reader {
         let bytes = match sort {
             Sort::Import => text::compose(text).or_else(|found| error(line, found.what))?,
             Sort::Page => between_bars(line, text).map(|line| [&line[..], b"\n"].concat())?,
+            Sort::Split | Sort::Merge => {
+                hexadecimal(line, &text.split_whitespace().collect::<Vec<_>>())?
+            }
             _ => between_bars(line, text)?,
         };
         match self.run.requests.last_mut() {
@@ -276,7 +287,7 @@ fn sort_named(line: usize, name: &str) -> Parse<Sort> {
         Some(sort) => Ok(*sort),
         None => error(
             line,
-            "start, deliver, query, checkpoint, page, import or export is expected",
+            "start, deliver, query, checkpoint, page, import, export, split or merge is expected",
         ),
     }
 }
@@ -287,20 +298,31 @@ fn numbers_named<'a, 'b>(
     sort: Sort,
     words: &'a [&'b str],
 ) -> Parse<(Numbers, &'a [&'b str])> {
-    let (cycle, day, rest) = match (sort, words) {
-        (Sort::Page, ["day", day, rest @ ..]) => ("0", *day, rest),
-        (Sort::Import, ["cycle", cycle, "day", day, rest @ ..]) => (*cycle, *day, rest),
+    let mut numbers = Numbers::default();
+    let rest = match (sort, words) {
+        (Sort::Page, ["day", day, rest @ ..]) => {
+            numbers.day = short(line, day)?;
+            rest
+        }
+        (Sort::Import, ["cycle", cycle, "day", day, rest @ ..]) => {
+            (numbers.cycle, numbers.day) = (short(line, cycle)?, short(line, day)?);
+            rest
+        }
+        (Sort::Split | Sort::Merge, ["k", k, "n", n, rest @ ..]) => {
+            (numbers.k, numbers.n) = (short(line, k)?, short(line, n)?);
+            rest
+        }
         (Sort::Page, _) => return error(line, "day N is expected"),
         (Sort::Import, _) => return error(line, "cycle N day N is expected"),
-        _ => ("0", "0", words),
+        (Sort::Split | Sort::Merge, _) => return error(line, "k N n N is expected"),
+        _ => words,
     };
-    let (cycle, day) = (short(line, cycle)?, short(line, day)?);
-    Ok((Numbers { cycle, day }, rest))
+    Ok((numbers, rest))
 }
 
 fn short(line: usize, word: &str) -> Parse<u32> {
     let number = u32::try_from(number(line, word)?);
-    number.or_else(|_| error(line, "a day or a cycle has 32 bits"))
+    number.or_else(|_| error(line, "a number of a call has 32 bits"))
 }
 
 fn room_named(line: usize, words: &[&str]) -> Parse<Option<usize>> {

@@ -2,7 +2,8 @@
 //! sentences of document 01: what is malformed ("So is an input slice that isn't exactly one
 //! record, checkpoint or image"), 1 before 2 before 22, and 22 for every output slice that is too
 //! short; for a page 23 in the place of 22 (request A1); for the calls of rosters 24 in the place of 1
-//! and 25 in that of 22 (request A2).
+//! and 25 in that of 22 (request A2); for those of shares 26 and 27 before 28, "a slice too short"
+//! (request A9).
 
 use super::call::{Call, Sort};
 use super::make::{Slices, GUARD};
@@ -29,7 +30,10 @@ pub fn around(call: &Call, number: u32, each: Each) -> Swept {
     for place in 0..call.slices.len() {
         let mut cut = call.clone();
         let is_cut = cut.slices[place].pop().is_some();
-        let number = number_cut(number, call.sort.malformed(place));
+        let number = match call.sort.is_of_shares() {
+            true => shares_cut(call, number, place),
+            false => number_cut(number, call.sort.malformed(place)),
+        };
         if let Some(number) = number.filter(|_| is_cut) {
             with_rooms(&cut, number, each)?;
         }
@@ -47,9 +51,21 @@ fn number_cut(number: u32, malformed: u32) -> Option<u32> {
     }
 }
 
-/// Whether a call that returns this number has a malformed slice.
+/// The same in a call of shares. None where a number that 27 is for may be cut off.
+fn shares_cut(call: &Call, number: u32, place: usize) -> Option<u32> {
+    let is_short = call.slices[place].len() <= call.needed(place);
+    match number {
+        27 if place == 0 => None,
+        26 | 27 => Some(number),
+        _ if is_short => Some(call.sort.no_room()),
+        _ => Some(number),
+    }
+}
+
+/// Whether a call that returns this number has a malformed slice, k or n out of range or a bad share
+/// number: what is tried before the lengths of slices.
 pub fn is_malformed(number: u32) -> bool {
-    matches!(number, 1 | 2 | 24)
+    matches!(number, 1 | 2 | 24 | 26 | 27)
 }
 
 /// With guard bytes behind each slice, and with nothing behind it.
@@ -68,7 +84,7 @@ fn with_rooms(call: &Call, number: u32, each: Each) -> Swept {
     Ok(())
 }
 
-/// "straight after 1 and 2"; "24 comes before 25"
+/// "straight after 1 and 2"; "24 comes before 25"; "tried in that order"
 fn with_room(call: &Call, number: u32, room: usize) -> u32 {
     match room < call.room() && !is_malformed(number) {
         true => call.sort.no_room(),
@@ -86,9 +102,12 @@ pub fn rooms(call: &Call, number: u32, each: Each) -> Swept {
 
 /// Input slices of every shorter and some longer lengths, and other records in the place of each.
 /// Nothing of the call is malformed.
-pub fn slices(call: &Call, each: Each) -> Swept {
+pub fn slices(call: &Call, number: u32, each: Each) -> Swept {
     if call.sort == Sort::Import {
         return cuts(call, each);
+    }
+    if call.sort.is_of_shares() {
+        return share_lengths(call, number, each);
     }
     for place in 0..call.slices.len() {
         lengths(call, place, each)?;
@@ -113,6 +132,27 @@ fn cuts(call: &Call, each: Each) -> Swept {
             false => 24,
         };
         with_rooms(&other, number, each)?;
+    }
+    Ok(())
+}
+
+/// The slices of a call that gives shares or a key, with every shorter length and some longer ones. What
+/// stands behind the needed bytes changes nothing, so the number stays.
+fn share_lengths(call: &Call, number: u32, each: Each) -> Swept {
+    if !call.sort.writes(number) {
+        return Ok(());
+    }
+    for place in 0..call.slices.len() {
+        let needed = call.needed(place);
+        for length in (0..needed + SPARE).chain([LONGEST_SLICE]) {
+            let mut other = call.clone();
+            other.slices[place].resize(length, 0);
+            let number = match length < needed {
+                true => call.sort.no_room(),
+                false => number,
+            };
+            with_rooms(&other, number, each)?;
+        }
     }
     Ok(())
 }

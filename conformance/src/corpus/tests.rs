@@ -38,6 +38,8 @@ fn changes_of_a_record() {
     let changed = bytes(&format!("{QUERY}\n at 2 bytes 13 01 # the kind"));
     assert_eq!(changed[..4], [11, 0, 0x13, 1]);
     assert_eq!(changed[4..], whole[4..]);
+    let longer = bytes("bytes 01 02\n more bytes 03\n size 4\n more bytes 05 06");
+    assert_eq!(longer, [1, 2, 3, 0, 5, 6]);
 }
 
 #[test]
@@ -113,9 +115,40 @@ fn messages_have_their_line() {
         ("bytes 00\n at 0 bytes 0", 2, "two hexadecimal digits"),
         ("at 0 bytes 00", 1, "is expected"),
     ] {
-        let found = message(text);
-        assert_eq!(found.0, line, "{text}: {}", found.1);
-        assert!(found.1.contains(what), "{text}: {}", found.1);
+        require_message(text, line, what);
+    }
+}
+
+fn require_message(text: &str, line: usize, what: &str) {
+    let found = message(text);
+    assert_eq!(found.0, line, "{text}: {}", found.1);
+    assert!(found.1.contains(what), "{text}: {}", found.1);
+}
+
+#[test]
+fn messages_about_shares_have_their_line() {
+    let (split, merge) = ("call split k 2 n 2\n", "call merge k 2 n 2\n");
+    for (text, line, what) in [
+        ("call split n 3".to_string(), 1, "k N n N is expected"),
+        ("call merge k 2".to_string(), 1, "k N n N is expected"),
+        ("call merge k 2 n 4294967296".to_string(), 1, "has 32 bits"),
+        (format!("{split}# answer: given"), 2, "given and a number"),
+        (format!("{split}# answer: given 2\nrun"), 2, "are missing"),
+        (format!("{merge}# answer: given 1"), 2, "given or no N is"),
+        (format!("{merge}# answer: given\nrun"), 2, "are missing"),
+        (
+            format!("{split}# answer: given 2\n# share: 0"),
+            3,
+            "two hexadecimal digits",
+        ),
+        (
+            format!("{split}# answer: given 2\n# key: 00"),
+            3,
+            "gives no such line",
+        ),
+        ("bytes 00\n more 00".to_string(), 2, "more bytes .."),
+    ] {
+        require_message(&text, line, what);
     }
 }
 
@@ -132,12 +165,12 @@ fn every_file_is_read() {
     for name in names() {
         assert!(read(&text(&name)).is_ok(), "{name}");
     }
-    assert_eq!(names().len(), 25 + 9 + 10 + 4);
+    assert_eq!(names().len(), 28 + 10 + 10 + 4);
 }
 
 #[test]
 fn each_rule_has_a_file_that_reaches_it() {
-    for rule in 1..=25 {
+    for rule in 1..=28 {
         let runs = read(&text(&format!("rule-{rule:02}.txt"))).unwrap();
         let mut requests = runs.iter().flat_map(|run| &run.requests);
         let met = requests.any(|request| request.answer == Answer::No(rule));
@@ -282,6 +315,41 @@ fn a_changed_line_of_a_roster_is_found() {
     assert_eq!(export("501,1970-05-01,0001"), (3, what));
 }
 
+const SPLIT: &str = "call split k 2 n 3\nbytes 07\n size 32\nbytes 01\n size 32\n";
+const MERGE: &str =
+    "call merge k 2 n 3\nbytes 03 01\nbytes 04\n size 32\n more bytes 06\n size 64\n";
+
+/// A byte as the first of 32, the others 0.
+fn first_of_32(byte: &str) -> String {
+    format!("{byte}{}", " 00".repeat(31))
+}
+
+#[test]
+fn a_changed_share_is_found() {
+    let split = |bytes: [&str; 3]| {
+        let shares = bytes.map(|byte| format!("# share: {}\n", first_of_32(byte)));
+        found(&format!("{SPLIT}# answer: given 3\n{}", shares.concat()))
+    };
+    assert!(split(["06", "05", "04"]).1.contains("no node-run"));
+    let (written, wanted) = (first_of_32("05"), first_of_32("04"));
+    let what = format!("it writes {written}, wanted {wanted}");
+    assert_eq!(split(["06", "04", "05"]), (6, what));
+    let what = "archive returns 768, wanted 28".to_string();
+    assert_eq!(found(&format!("{SPLIT}# answer: no 28\n")), (6, what));
+}
+
+#[test]
+fn a_changed_key_is_found() {
+    let merge = |byte: &str| {
+        let key = first_of_32(byte);
+        found(&format!("{MERGE}# answer: given\n# key: {key}\n"))
+    };
+    assert!(merge("07").1.contains("no node-run"));
+    let (written, wanted) = (first_of_32("07"), first_of_32("08"));
+    let what = format!("it writes {written}, wanted {wanted}");
+    assert_eq!(merge("08"), (7, what));
+}
+
 /// The calls of a text: a head of 16 bytes, then the slices.
 #[test]
 fn calls_for_c() {
@@ -327,4 +395,23 @@ fn a_roster_for_c() {
         [6, 0, 0, 0, 24, 0, 0, 0, 0, 0, 0, 0, 0, 0, 0, 0]
     );
     assert_eq!(export.len(), 16 + 24);
+}
+
+/// k and n of shares stand behind both slices.
+#[test]
+fn shares_for_c() {
+    let text = format!("{SPLIT}# answer: no 28\n{MERGE}# answer: no 28\n");
+    let calls = export::calls(&read(&text).unwrap()).unwrap();
+    let (split, merge) = calls.split_at(16 + 32 + 32 + 8);
+    assert_eq!(
+        split[..16],
+        [7, 0, 0, 0, 32, 0, 0, 0, 32, 0, 0, 0, 8, 0, 0, 0]
+    );
+    assert_eq!(split[80..], [2, 0, 0, 0, 3, 0, 0, 0]);
+    assert_eq!(
+        merge[..16],
+        [8, 0, 0, 0, 2, 0, 0, 0, 64, 0, 0, 0, 8, 0, 0, 0]
+    );
+    assert_eq!(merge[16..18], [3, 1]);
+    assert_eq!(merge[82..], [2, 0, 0, 0, 3, 0, 0, 0]);
 }

@@ -1,5 +1,6 @@
 //! What a call is to write, as far as the papers give it by itself: all of it but the tables of the
-//! state after a performed action, the lines of a page, the values of a roster's lines and a date.
+//! state after a performed action, the lines of a page, the values of a roster's lines, a date, shares
+//! and keys.
 //! These are compared between the implementations, and what has no image with the text.
 
 use super::call::{Call, Numbers, Sort};
@@ -16,7 +17,7 @@ pub fn check(call: &Call, number: u32, written: &[u8]) -> Result<(), String> {
         Sort::Deliver => &[IMAGE_SIZE, 24],
         Sort::Query => &[IMAGE_SIZE, least_size(kind_of(&call.slices[1]))],
         Sort::Checkpoint | Sort::Page => &[IMAGE_SIZE],
-        Sort::Import => &[],
+        Sort::Import | Sort::Split | Sort::Merge => &[],
         Sort::Export => &[ANNOUNCEMENT_SIZE],
     };
     if !sizes.starts_with(whole) {
@@ -32,7 +33,7 @@ fn expected(call: &Call, number: u32, written: &[u8]) -> Vec<u8> {
     let mut out = call.slices[0].clone();
     match (call.sort, number) {
         (Sort::Checkpoint, _) => out.truncate(CHECKPOINT_SIZE),
-        (Sort::Page, _) => out = written.to_vec(),
+        (Sort::Page | Sort::Split | Sort::Merge, _) => out = written.to_vec(),
         (Sort::Import, _) => out = imported(call.numbers, written),
         (Sort::Export, _) => out = exported(&call.slices[0], written),
         // "Misses 0, no vote." The start record has seat and life behind its four bytes. "kind 26 is the
@@ -72,7 +73,7 @@ fn performed(image: &mut [u8], announcement: &[u8], written: &[u8]) {
 
 /// "grant announcements .. for a given day and cycles rising by one from a given one" (request A2)
 fn imported(numbers: Numbers, written: &[u8]) -> Vec<u8> {
-    let Numbers { cycle, day } = numbers;
+    let Numbers { cycle, day, .. } = numbers;
     let announcements = written.chunks(ANNOUNCEMENT_SIZE).zip(cycle..);
     let announcement = |(written, cycle): (&[u8], u32)| {
         let head = [[22, 0, 8, 0], cycle.to_le_bytes(), day.to_le_bytes()].concat();

@@ -1,6 +1,7 @@
 -- The proofs of what an owner can rely on.
 pub mod Length
 pub mod Rosters
+pub mod PartialKeys
 pub mod Refusals
 pub mod Hosts
 pub mod OneDoor

@@ -14,6 +14,9 @@ use Rattle.records.specs.declared.QueryRead.the-variants as Q
 use Rattle.records.specs.StartQuery.{readQuery}
 use Rattle.roster.specs.declared.RosterAnswer.the-variants as Roster
 use Rattle.roster.specs.Calls.{importOf, exportOf}
+use Rattle.shares.specs.declared.SplitAnswer.the-variants as Split
+use Rattle.shares.specs.declared.MergeAnswer.the-variants as Merge
+use Rattle.shares.specs.Calls.{splitOf, mergeOf}
 use Rattle.node.specs.declared.Node.{Node}
 use Rattle.node.specs.declared.CheckpointAnswer.the-variants.{Refused}
 use Rattle.node.specs.declared.PageAnswer.the-variants as Page
@@ -22,6 +25,7 @@ use Rattle.node.specs.Page.{pageOf, pageSlice}
 use Rattle.node.specs.Claims.{oneMissMore, noMissesAt}
 use Rattle.image.specs.Image.{imageBytes, isImage, readImage}
 use Rattle.node_c.specs.Calls.{Returned, nodeStart, nodeDeliver, nodeQuery, nodeCheckpoint, nodePage, nodeRosterImport, nodeRosterExport}
+use Rattle.node_c.specs.Calls.{nodeSharesSplit, nodeSharesMerge}
 use Rattle.agreement.specs.History.{Host, byValue, throughC, Call, start, deliver, query, checkpoint, Cluster, accepted, run}
 
 -- k is the number of a refusal: 0 is started, done, open or given, and 128 is voted
@@ -117,3 +121,11 @@ pub record SlicesKept : Type 0 where
       → nodeRosterExport announcement out .slice ≡ out
   pub export-by-value : (announcement out : List ℕ) (k : ℕ) → exportOf announcement out .answer ≡ Roster.Refused k
       → exportOf announcement out .slice ≡ out
+  -- and what a split returns
+  pub shares-split : (key : List ℕ) (k n : ℕ) (cs out : List ℕ) → nodeSharesSplit key k n cs out .number % 256 ≢ 0
+      → nodeSharesSplit key k n cs out .slice ≡ out
+  pub split-by-value : (key : List ℕ) (k n : ℕ) (cs out : List ℕ) (j : ℕ) → splitOf key k n cs out .answer ≡ Split.Refused j
+      → splitOf key k n cs out .slice ≡ out
+  pub shares-merge : (k n : ℕ) (numbers shares out : List ℕ) → KeepsSlice out (nodeSharesMerge k n numbers shares out)
+  pub merge-by-value : (k n : ℕ) (numbers shares out : List ℕ) (j : ℕ) → mergeOf k n numbers shares out .answer ≡ Merge.Refused j
+      → mergeOf k n numbers shares out .slice ≡ out

@@ -9,3 +9,4 @@ pub mod Evictions
 pub mod Doors
 pub mod AccessPage
 pub mod Roster
+pub mod PartialKeys

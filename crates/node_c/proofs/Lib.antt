@@ -1,3 +1,4 @@
 -- What a call for C returns.
 pub mod Calls
 pub mod Kept
+pub mod Shares

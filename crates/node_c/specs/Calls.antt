@@ -1,4 +1,4 @@
--- The calls for C, on images, rosters and slices: what is returned, and what the whole output slice then holds.
+-- The calls for C, on images, rosters, partial keys and slices: what is returned, and what the whole output slice then holds.
 use Prim.Native.Nat.{ℕ, _*_}
 use mathlib.Core.List.{List}
 use mathlib.Core.Bool.{Bool, cond, _||_}
@@ -10,6 +10,11 @@ use Rattle.state.specs.Time.{cycle, day}
 use Rattle.roster.specs.declared.RosterAnswer.{RosterAnswer}
 use Rattle.roster.specs.declared.RosterAnswer.the-variants as R
 use Rattle.roster.specs.Calls.{Outcome, importOf, exportOf}
+use Rattle.shares.specs.declared.SplitAnswer.{SplitAnswer}
+use Rattle.shares.specs.declared.SplitAnswer.the-variants as Split
+use Rattle.shares.specs.declared.MergeAnswer.{MergeAnswer}
+use Rattle.shares.specs.declared.MergeAnswer.the-variants as Merge
+use Rattle.shares.specs.Calls.{splitOf, mergeOf}
 use Rattle.node.specs.declared.PageAnswer.{PageAnswer}
 use Rattle.node.specs.declared.PageAnswer.the-variants as P
 use Rattle.node.specs.Answers.{startNumber, deliverNumber, queryNumber, checkpointNumber}
@@ -99,3 +104,24 @@ nodeRosterImport roster c d out = rosterReturn (importOf roster (cycle c) (day d
 
 unfoldable pub nodeRosterExport : List ℕ → List ℕ → Returned
 nodeRosterExport announcement out = rosterReturn (exportOf announcement out)
+
+-- ---- partial keys, which ask nothing of a node
+
+-- the answer in the low 8 bits, and above them the number of shares, which is 0 for a refusal
+abbrev pub splitReturned : SplitAnswer → ℕ
+splitReturned (Split.Given n) = 256 * n
+splitReturned (Split.Refused k) = k
+
+abbrev pub mergeReturned : MergeAnswer → ℕ
+mergeReturned Merge.Given = 0
+mergeReturned (Merge.Refused k) = k
+
+unfoldable pub nodeSharesSplit : List ℕ → ℕ → ℕ → List ℕ → List ℕ → Returned
+nodeSharesSplit key k n coefficients out =
+    let x = splitOf key k n coefficients out in
+    record { number = splitReturned (x .answer); slice = x .slice }
+
+unfoldable pub nodeSharesMerge : ℕ → ℕ → List ℕ → List ℕ → List ℕ → Returned
+nodeSharesMerge k n numbers shares out =
+    let x = mergeOf k n numbers shares out in
+    record { number = mergeReturned (x .answer); slice = x .slice }

@@ -2,18 +2,20 @@
 use mathlib.Core.Path.{_≡_}
 use mathlib.Core.Logic.{_≢_, _⊎_}
 use mathlib.Core.Bool.{true, false}
-use mathlib.Core.List.{List}
+use mathlib.Core.List.{List, _++_}
 use Prim.Native.Nat.{ℕ, _*_, _≤_, _<_}
-use lib.ListN.{length}
-use Rattle.binary.specs.Number.{overwrite}
+use lib.ListN.{length, take}
+use Rattle.binary.specs.Number.{Bytes, overwrite}
 use Rattle.state.specs.declared.State.{State}
 use Rattle.state.specs.Time.{day}
 use Rattle.page.specs.Layout.{lineSize}
 use Rattle.page.specs.Page.{lineCount, pageText}
+use Rattle.shares.specs.Shares.{keySize}
+use Rattle.shares.specs.Claims.{AreNumbers, chosen}
 use Rattle.node.specs.declared.Node.{Node}
 use Rattle.image.specs.Layout.{imageSize}
 use Rattle.image.specs.Image.{imageBytes, isImage, readImage}
-use Rattle.node_c.specs.Calls.{HandedBack, Returned, return, onImage, nodePage}
+use Rattle.node_c.specs.Calls.{HandedBack, Returned, return, onImage, nodePage, nodeSharesSplit, nodeSharesMerge}
 
 -- the numbers with which an image is written: started, performed or open; voted; a miss
 abbrev pub Writes : ℕ → Type 0
@@ -52,3 +54,10 @@ pub data PageReturning (image : List ℕ) (d : ℕ) (out : List ℕ) (x : Return
 
 abbrev pub PageReturns : Type 0
 PageReturns = (image : List ℕ) (d : ℕ) (out : List ℕ) → PageReturning image d out (nodePage image d out)
+
+-- What node_shares_split wrote, node_shares_merge reads: any k shares give the key back.
+abbrev pub AnySharesGiveTheKeyInC : Type 0
+AnySharesGiveTheKeyInC = (key : List ℕ) (k n : ℕ) (cs out : List ℕ) → Bytes key → Bytes cs → nodeSharesSplit key k n cs out .number ≡ 256 * n
+    → (numbers rest keyOut : List ℕ) → k ≤ length numbers → AreNumbers n (take k numbers) → keySize ≤ length keyOut
+    → nodeSharesMerge k n numbers (chosen (nodeSharesSplit key k n cs out .slice) (take k numbers) ++ rest) keyOut
+    ≡ record { number = 0; slice = overwrite (take keySize key) keyOut }

@@ -1,2 +1,3 @@
 // The calls for C.
 mod entries;
+mod partial_keys;

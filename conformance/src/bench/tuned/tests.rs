@@ -3,7 +3,7 @@
 use crate::bench::measure::TUNED;
 use crate::compare::call::{Calls, Request};
 use crate::compare::make::random::Random;
-use crate::compare::make::{evictions, lone_requests, rosters, settings, sweeps};
+use crate::compare::make::{evictions, lone_requests, rosters, settings, shares, sweeps};
 use crate::compare::PAPER;
 
 fn outcome(calls: &Calls, request: &Request) -> (u32, Vec<u8>) {
@@ -54,6 +54,17 @@ fn reads_and_writes_rosters() {
         rosters::damage(&base, &mut compare).unwrap();
         rosters::cuts(&base, &mut compare).unwrap();
         rosters::rooms(&base, &mut compare).unwrap();
+    }
+}
+
+#[test]
+fn splits_and_merges_keys() {
+    let mut rng = Random::new(4);
+    for request in shares::edges().into_iter().chain(shares::products()) {
+        compare(&request).unwrap();
+    }
+    for _ in 0..20_000 {
+        compare(&shares::any(&mut rng)).unwrap();
     }
 }
 

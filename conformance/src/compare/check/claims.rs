@@ -135,7 +135,7 @@ impl Claims {
                 Ok(())
             }
             Records::Page(day) => self.pages.note(&event.request.image, *day, written),
-            Records::Import { .. } | Records::Export(_) => Ok(()),
+            _ => Ok(()),
         }
     }
 

@@ -1,7 +1,7 @@
 //! One call through the archive and through the second implementation.
 
-use super::rosters;
 use super::second::{ByValue, Second};
+use super::{rosters, shares};
 use crate::archive;
 use crate::compare::call::{answer_in, count_in, Outcome, Records, Request, ARCHIVE};
 use crate::layout::{CHECKPOINT_SIZE, LINE_SIZE};
@@ -184,11 +184,12 @@ fn same_page(node: Box<dyn ByValue>, day: u32, outcome: &Outcome) -> Result<Held
 }
 
 /// A call that stands alone: for C, and by value where the output slice has room; what the calls of
-/// rosters write is read back.
+/// rosters and of shares write is read back.
 pub fn compare_all(second: &Second, request: &Request) -> Result<Outcome, String> {
     let outcome = compare(second, request)?;
     if !request.records.is_of_node() {
         rosters::round_trip(&request.records, &outcome)?;
+        shares::round_trip(&request.records, &outcome)?;
     } else if request.out >= request.size() {
         let held = guarded(|| (second.from_image)(&request.image))?;
         by_value(second, held, request, &outcome)?;

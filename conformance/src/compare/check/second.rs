@@ -41,6 +41,8 @@ macro_rules! second {
                     page: paper::page::node_page,
                     import: paper::roster::node_roster_import,
                     export: paper::roster::node_roster_export,
+                    split: paper::shares::node_shares_split,
+                    merge: paper::shares::node_shares_merge,
                 },
                 start: |checkpoint, start| match paper::start(checkpoint, start) {
                     Ok(node) => Ok(Box::new(node)),

@@ -89,15 +89,25 @@ fn slices(request: &Request) -> Vec<&Vec<u8>> {
         Records::Checkpoint | Records::Page(_) => vec![&request.image],
         Records::Import { roster, .. } => vec![roster],
         Records::Export(announcement) => vec![announcement],
+        Records::Split {
+            key, coefficients, ..
+        } => vec![key, coefficients],
+        Records::Merge {
+            numbers, shares, ..
+        } => vec![numbers, shares],
     }
 }
 
-fn slice_mut(request: &mut Request, place: usize) -> &mut Vec<u8> {
+pub fn slice_mut(request: &mut Request, place: usize) -> &mut Vec<u8> {
     match (&mut request.records, place) {
         (Records::Start(checkpoint, _), 0) => checkpoint,
         (Records::Start(_, start), _) => start,
         (Records::Import { roster, .. }, _) => roster,
         (Records::Export(announcement), _) => announcement,
+        (Records::Split { key, .. }, 0) => key,
+        (Records::Split { coefficients, .. }, _) => coefficients,
+        (Records::Merge { numbers, .. }, 0) => numbers,
+        (Records::Merge { shares, .. }, _) => shares,
         (_, 0) => &mut request.image,
         (Records::Deliver(announcement, _), 1) => announcement,
         (Records::Deliver(_, sheet), _) => sheet,

@@ -1,5 +1,5 @@
-//! What the calls met: answers by call, actions, both ends of every range, pages and rosters at their
-//! edges.
+//! What the calls met: answers by call, actions, both ends of every range, pages, rosters and shares at
+//! their edges.
 
 use super::doors::Doors;
 use super::evictions::Evictions;
@@ -8,6 +8,7 @@ use super::ranges::{Range, ANNOUNCED, ASKED, DATES, HEAD, OWN_MISSES, PERFORMED,
 use super::restarts::Restarts;
 use super::rosters::Rosters;
 use super::settings::Settings;
+use super::shares::Shares;
 use crate::compare::call::{Event, Outcome, Records, Request, CALLS, VOTED};
 use crate::compare::fields::{self, Login, OwnFields, Seat, StateFields};
 use crate::layout::{self, kind_of, query_fields, BODY, CHECKPOINT, CYCLE_AND_DAY, MASKS, ROW};
@@ -15,7 +16,7 @@ use crate::layout::{to_current, REJOIN, ROWS, ROW_SIZE, START};
 
 pub struct Coverage {
     pub calls: u64,
-    /// By call and answer, 0 to 25 and 128.
+    /// By call and answer, 0 to 28 and 128.
     pub answers: [[u64; 129]; CALLS.len()],
     pub performed: [u64; 10],
     pub voted: [u64; 10],
@@ -32,6 +33,7 @@ pub struct Coverage {
     /// The same, and accepted starts of all calls.
     pub settings: Settings,
     pub rosters: Rosters,
+    pub shares: Shares,
 }
 
 impl Coverage {
@@ -51,6 +53,7 @@ impl Coverage {
             doors: Doors::new(),
             settings: Settings::new(),
             rosters: Rosters::new(),
+            shares: Shares::new(),
         }
     }
 
@@ -121,6 +124,9 @@ impl Coverage {
             Records::Page(_) => {}
             Records::Import { .. } | Records::Export(_) => {
                 return self.rosters.note(request, outcome);
+            }
+            Records::Split { .. } | Records::Merge { .. } => {
+                return self.shares.note(request, outcome);
             }
         }
         self.note_state(&request.image);

@@ -2,6 +2,7 @@
 //! that say the same in the words of `records`.
 
 use crate::compare::call::{Call, History, Records, Request};
+use crate::layout::{KEY_SIZE, LEAST_SHARES, MOST_SHARES};
 use crate::text::{show, show_image};
 use std::str::FromStr;
 
@@ -14,12 +15,13 @@ pub enum Case {
     Stream(Vec<u8>),
 }
 
-/// The records of a call in the words of `records`, the day of a page, or a roster.
+/// The records of a call in the words of `records`, the day of a page, a roster, a key or shares.
 pub fn words_of(records: &Records) -> String {
     let slices = match records {
         Records::Page(day) => return format!("page for day {day}\n"),
         Records::Import { roster, cycle, day } => return roster_words(roster, *cycle, *day),
         Records::Export(announcement) => vec![announcement],
+        Records::Split { .. } | Records::Merge { .. } => return share_words(records),
         _ => records.in_order(),
     };
     let words = slices.into_iter().map(|slice| match slice.len() {
@@ -38,12 +40,44 @@ fn roster_words(roster: &[u8], cycle: u32, day: u32) -> String {
     format!("roster for day {day} and cycles from {cycle}:\n{lines}")
 }
 
+/// k and n and the slices, a line for each 32 bytes of a key or share and for the coefficients of each
+/// key byte.
+fn share_words(records: &Records) -> String {
+    let lines = |name: &str, slice: &[u8], size: usize| -> String {
+        let line = |bytes: &[u8]| format!("{name} {}\n", hex(bytes));
+        slice.chunks(size.max(1)).map(line).collect()
+    };
+    match records {
+        Records::Split {
+            key,
+            k,
+            n,
+            coefficients,
+        } => {
+            let terms = k.clamp(&LEAST_SHARES, &MOST_SHARES) - 1;
+            let coefficients = lines("coefficients", coefficients, terms as usize);
+            let key = lines("key", key, KEY_SIZE);
+            format!("split {k} of {n}\n{key}{coefficients}")
+        }
+        Records::Merge {
+            k,
+            n,
+            numbers,
+            shares,
+        } => {
+            let shares = lines("share", shares, KEY_SIZE);
+            format!("merge {k} of {n}\nnumbers {numbers:?}\n{shares}")
+        }
+        _ => String::new(),
+    }
+}
+
 /// Lines as comments.
 fn comment(text: &str) -> String {
     text.lines().map(|line| format!("# {line}\n")).collect()
 }
 
-fn hex(bytes: &[u8]) -> String {
+pub fn hex(bytes: &[u8]) -> String {
     if bytes.is_empty() {
         return "-".to_string();
     }
@@ -74,6 +108,18 @@ fn records_line(records: &Records) -> String {
         Records::Page(day) => format!("page {day}"),
         Records::Import { roster, cycle, day } => format!("import {cycle} {day} {}", hex(roster)),
         Records::Export(announcement) => format!("export {}", hex(announcement)),
+        Records::Split {
+            key,
+            k,
+            n,
+            coefficients,
+        } => format!("split {k} {n} {} {}", hex(key), hex(coefficients)),
+        Records::Merge {
+            k,
+            n,
+            numbers,
+            shares,
+        } => format!("merge {k} {n} {} {}", hex(numbers), hex(shares)),
     }
 }
 
@@ -184,6 +230,18 @@ fn read_records(words: &[&str]) -> Result<Records, String> {
             day: number(day)?,
         },
         ["export", announcement] => Records::Export(bytes(announcement)?),
+        ["split", k, n, key, coefficients] => Records::Split {
+            key: bytes(key)?,
+            k: number(k)?,
+            n: number(n)?,
+            coefficients: bytes(coefficients)?,
+        },
+        ["merge", k, n, numbers, shares] => Records::Merge {
+            k: number(k)?,
+            n: number(n)?,
+            numbers: bytes(numbers)?,
+            shares: bytes(shares)?,
+        },
         _ => return Err(format!("not a call: {}", words.join(" "))),
     })
 }

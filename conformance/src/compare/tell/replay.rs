@@ -1,10 +1,11 @@
 //! A kept case run again and shown step by step, in the words of `records`.
 
-use super::kept_case::{words_of, Case};
+use super::kept_case::{hex, words_of, Case};
 use crate::compare::call::{Event, History, Outcome, Records, Request};
 use crate::compare::check::second::Second;
 use crate::compare::check::{one_call, program, rerun};
 use crate::compare::fields::{OwnFields, StateFields};
+use crate::layout::KEY_SIZE;
 use crate::text::{show, show_image};
 use std::path::Path;
 
@@ -74,15 +75,19 @@ fn left(event: &Event) -> String {
     }
 }
 
-/// The lines of a page, the announcements of a roster or the line of one, if they were given.
+/// The lines of a page, the announcements of a roster or the line of one, shares or their key, if they
+/// were given.
 fn given(records: &Records, outcome: &Outcome) -> String {
-    let Some(written) = outcome.written.as_deref().filter(|_| outcome.count > 0) else {
+    let Some(written) = outcome.written.as_deref().filter(|bytes| !bytes.is_empty()) else {
         return String::new();
     };
     let lines = match records {
         Records::Page(_) => program::lines(written),
         Records::Import { .. } => show(written).text.lines().map(String::from).collect(),
         Records::Export(_) => vec![written.escape_ascii().to_string()],
+        Records::Split { .. } | Records::Merge { .. } => {
+            written.chunks(KEY_SIZE).map(hex).collect()
+        }
         _ => Vec::new(),
     };
     lines.iter().map(|line| format!("\n  {line}")).collect()

@@ -27,6 +27,7 @@ impl Coverage {
         let marks = marks.chain(self.settings.missing());
         let marks = marks.chain(self.evictions.missing());
         let marks = marks.chain(self.rosters.missing());
+        let marks = marks.chain(self.shares.missing());
         calls.chain(kinds).chain(ends).chain(marks).collect()
     }
 
@@ -65,6 +66,7 @@ impl Coverage {
         lines.extend(self.settings.summary());
         lines.extend(self.evictions.summary());
         lines.extend(self.rosters.summary());
+        lines.extend(self.shares.summary());
         lines
     }
 }

@@ -1,0 +1,34 @@
+use mathlib.Core.Path.{_≡_, _∙_}
+use Rattle.gf256.proofs.Laws.{mul-none, none-mul, mul-logs}
+use borrow.Author.Needs.{needs}
+use Rattle.gf256.proofs.mul.Statement.{statement}
+use Rattle.gf256.proofs.mul.Tie as tie
+
+returns : tie.Need-returns
+returns c = let e : c .before .before .before .args .a ≡ 0 = search needs in rw (e, none-mul)
+
+returns-2 : tie.Need-returns-2
+returns-2 c = let e : c .before .before .before .before .args .b ≡ 0 = search needs in rw (e, mul-none)
+
+log-requires : tie.Need-log-requires
+log-requires c κs = search needs
+
+log-requires-2 : tie.Need-log-requires-2
+log-requires-2 c κs = search needs
+
+add-power : tie.Need-add-power
+add-power c = search needs
+
+power-requires : tie.Need-power-requires
+power-requires c κs = search needs
+
+returns-3 : tie.Need-returns-3
+returns-3 c =
+    let l = c .before .before .log .ensures in
+    let m = c .before .log2 .ensures in
+    c .power .ensures ∙ mul-logs _ _ _ _ (l .1 (search needs)) (m .1 (search needs))
+
+pub mul-spec : {M : Type 1} → statement M
+mul-spec =
+    tie.close
+    (tie.spec returns returns-2 log-requires log-requires-2 add-power power-requires returns-3)

@@ -1,0 +1,9 @@
+use Rattle.gf256.proofs.Laws.{are-logarithms}
+use Rattle.gf256.proofs.tables.logarithms.Statement.{statement}
+use Rattle.gf256.proofs.tables.logarithms.Tie as tie
+
+returns : tie.Need-returns
+returns c = are-logarithms
+
+pub logarithms-spec : {M : Type 1} → statement M
+logarithms-spec = tie.close (tie.spec returns)

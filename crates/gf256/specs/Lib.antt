@@ -1,0 +1,4 @@
+-- The field of 256 elements.
+pub mod Field
+pub mod Tables
+pub mod Claims

@@ -1,0 +1,16 @@
+-- Laws of shares.
+pub mod Tabulated
+pub mod Turns
+pub mod Steps
+pub mod Algebra
+pub mod Weighing
+pub mod Writes
+pub mod Outcomes
+pub mod Interpolation
+pub mod Arguments
+pub mod Places
+pub mod GivingBack
+pub mod Hiding
+pub mod Parts
+pub mod HidingKeys
+pub mod Answering

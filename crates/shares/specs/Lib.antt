@@ -1,0 +1,6 @@
+-- Partial keys: Shamir's scheme, byte by byte.
+pub mod Polynomial
+pub mod Shares
+pub mod Calls
+pub mod Claims
+pub mod Code

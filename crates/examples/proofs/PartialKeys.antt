@@ -12,7 +12,7 @@ use Rattle.binary.specs.Number.{Bytes, overwrite}
 use Rattle.gf256.specs.Field.{add, times, remainder, mul, power, inverse}
 use Rattle.shares.specs.declared.MergeAnswer.the-variants as Merge
 use Rattle.shares.specs.Polynomial.{eval}
-use Rattle.shares.specs.Shares.{tabulate, shareOf, sharesOf, bytesOf, mergedKey, areNumbers}
+use Rattle.shares.specs.Shares.{tabulate, joined, shareOf, sharesOf, bytesOf, mergedKey, areNumbers}
 use Rattle.shares.specs.Calls.{splitOf, mergeOf}
 use Rattle.shares.specs.Code.{weighed, total, weights, weightedSum, weighedKey}
 use Rattle.shares.proofs.Outcomes.{mergeFits, merge-given}
@@ -46,7 +46,7 @@ unfolding mergeOf mergedKey areNumbers any
 front-counts shares out = refl
 
 pub partial-key-examples : PartialKeyExamples
-unfolding any all overwrite add times remainder mul eval weightedSum weighedKey tabulate shareOf sharesOf bytesOf areNumbers splitOf mergeOf rising
+unfolding any all overwrite add times remainder mul eval weightedSum weighedKey tabulate joined shareOf sharesOf bytesOf areNumbers splitOf mergeOf rising
 partial-key-examples = record {
   split = refl;
   merged = merges-to (share3 ++ share1) (replicate 33 9) key refl refl refl;

@@ -54,13 +54,14 @@ chain p (x ∷ xs) = eqb x p && chain (thrice p) xs
 at-power : ℕ → Bool
 at-power i = eqb (log (getD powers i 0)) i
 
+-- the place of a byte among 0 and the powers
+abbrev pub place : ℕ → ℕ
+place zero = 0
+place (suc b) = suc (log (suc b))
+
 -- of a byte: products stay bytes, 1 is neutral, and the logarithm is below 255 and that of the byte, unless the byte is 0
 at-byte : ℕ → Bool
 at-byte a = ltb (timesX a) 256 && (eqb (product 8 1 a) a && (ltb (log a) 255 && eqb (getD (0 ∷ powers) (place a) 0) a))
-  where
-    place : ℕ → ℕ
-    place zero = 0
-    place (suc b) = suc (log (suc b))
 
 test : Bool
 test = chain 1 powers && (allBelow at-power 255 && allBelow at-byte 256)
@@ -85,6 +86,7 @@ pub record Tested (a : ℕ) : Type 0 where
   pub timesX-byte : timesX a < 256
   pub one-product : product 8 1 a ≡ a
   pub log-below : log a < 255
+  pub entry : getD (0 ∷ powers) (place a) 0 ≡ a
 
 pub tested : (a : ℕ) → a < 256 → Tested a
 unfolding at-byte
@@ -92,15 +94,12 @@ tested a h =
     let t = and-eq-true-iff (ltb (timesX a) 256) _ .0 (each-byte a h) in
     let u = and-eq-true-iff (eqb (product 8 1 a) a) _ .0 (t .1) in
     let v = and-eq-true-iff (ltb (log a) 255) _ .0 (u .1) in
-    record { timesX-byte = ltb-true (timesX a) 256 (t .0); one-product = eqb-true (product 8 1 a) a (u .0); log-below = ltb-true (log a) 255 (v .0) }
-
-power-at-log : (a : ℕ) → suc a < 256 → getD powers (log (suc a)) 0 ≡ suc a
-unfolding at-byte
-power-at-log a h =
-    let t = and-eq-true-iff (ltb (timesX (suc a)) 256) _ .0 (each-byte (suc a) h) in
-    let u = and-eq-true-iff (eqb (product 8 1 (suc a)) (suc a)) _ .0 (t .1) in
-    let v = and-eq-true-iff (ltb (log (suc a)) 255) _ .0 (u .1) in
-    eqb-true (getD powers (log (suc a)) 0) (suc a) (v .1)
+    record {
+      timesX-byte = ltb-true (timesX a) 256 (t .0);
+      one-product = eqb-true (product 8 1 a) a (u .0);
+      log-below = ltb-true (log a) 255 (v .0);
+      entry = eqb-true (getD (0 ∷ powers) (place a) 0) a (v .1);
+    }
 
 -- ---- the powers
 
@@ -148,7 +147,7 @@ pub powers-end : up 255 1 ≡ 1
 powers-end = chain-end powers 1 (parts .0)
 
 pub up-log : (a : ℕ) → suc a < 256 → up (log (suc a)) 1 ≡ suc a
-up-log a h = sym (entry-up (log (suc a)) (tested (suc a) h .log-below)) ∙ power-at-log a h
+up-log a h = sym (entry-up (log (suc a)) (tested (suc a) h .log-below)) ∙ tested (suc a) h .entry
 
 -- the exponents below 255 give different powers
 pub log-up : (i : ℕ) → i < 255 → log (up i 1) ≡ i

@@ -4,19 +4,19 @@ use native.Mathlib.Omega.{arith}
 use Rattle.gf256.specs.Field.{times, remainder, mul, inverse}
 use Rattle.gf256.specs.Claims.{FieldLaws, PowersOfThree, ProductsByLogarithms, PublishedExamples}
 use Rattle.gf256.proofs.Entries.{log, tested, log-up}
-use Rattle.gf256.proofs.Laws.{add-assoc, add-sym, add-none, add-self, add-byte, mul-byte, mul-sym, mul-assoc, mul-add, one-mul, power-up, power-add, log-power, inverse-byte, mul-inverse, inverse-only}
+use Rattle.gf256.proofs.Laws.{add-assoc, add-comm, add-zero, add-self, add-byte, mul-byte, mul-comm, mul-assoc, mul-add, one-mul, power-up, power-add, log-power, inverse-byte, mul-inverse, inverse-only}
 
 pub field-laws : FieldLaws
 field-laws = record {
   add-byte = add-byte;
   add-assoc = add-assoc;
-  add-comm = add-sym;
-  add-zero = add-none;
+  add-comm = add-comm;
+  add-zero = add-zero;
   add-self = add-self;
   mul-byte = mul-byte;
   mul-assoc = mul-assoc;
-  mul-comm = mul-sym;
-  mul-one = λ a h. mul-sym a 1 ∙ one-mul a h;
+  mul-comm = mul-comm;
+  mul-one = λ a h. mul-comm a 1 ∙ one-mul a h;
   inverse-byte = inverse-byte;
   mul-inverse = mul-inverse;
   distributes = mul-add;

@@ -4,13 +4,14 @@ use mathlib.Core.Path.{_≡_, refl, sym, ap, ap₂, _∙_}
 use mathlib.Core.Logic.{_≢_, _⊎_, inl, inr}
 use mathlib.Core.List.{List}
 use Prim.Native.Nat.{ℕ, zero, suc, _+_, _-_, _*_, _/_, _%_, _<_, _≤_}
-use native.Mathlib.Nat.{zero-add, suc-add, add-comm, mul-comm, mul-zero, mul-suc, mod-lt, mod-eq-of-lt, zero-lt-suc}
+use native.Mathlib.Nat.{zero-add, suc-add, mul-suc, mod-lt, mod-eq-of-lt, zero-lt-suc}
+use native.Mathlib.Nat as Nat
 use native.Mathlib.Omega.{arith}
 use lib.Bits.{bitXor, xor-mod, xor-zero-r, xor-self, xor-comm, xor-lt}
 use lib.ListN.{getD}
 use Rattle.gf256.specs.Field.{add, scaled, mul, power, inverse, divide}
 use Rattle.gf256.specs.Tables.{ArePowers, AreLogarithms}
-use Rattle.gf256.proofs.Xor.{xor-assoc}
+use Rattle.gf256.proofs.Xor.{xor-assoc, xor-four}
 use Rattle.gf256.proofs.Products.{scaled-byte, timesX, product, thrice, product-thrice, product-zero, product-of-zero, remainder-times}
 use Rattle.gf256.proofs.Entries.{powers, logs, log, tested, entry-up, up, up-up, up-sum, product-up, powers-end, up-log}
 
@@ -40,7 +41,7 @@ product-comm a b ha hb = go (as-power a ha) (as-power b hb)
         by-power i b e hb
         ∙ ap (up i) (sym f)
         ∙ up-up i j 1
-        ∙ ap (λ (n : ℕ). up n 1) (add-comm i j)
+        ∙ ap (λ (n : ℕ). up n 1) (Nat.add-comm i j)
         ∙ sym (up-up j i 1)
         ∙ ap (up j) e
         ∙ sym (by-power j a f ha)
@@ -66,13 +67,17 @@ pub add-assoc : (a b c : ℕ) → add (add a b) c ≡ add a (add b c)
 unfolding add
 add-assoc a b c = xor-assoc a b c
 
-pub add-sym : (a b : ℕ) → add a b ≡ add b a
+pub add-four : (a b c d : ℕ) → add (add a b) (add c d) ≡ add (add a c) (add b d)
 unfolding add
-add-sym a b = xor-comm a b
+add-four a b c d = xor-four a b c d
 
-pub add-none : (a : ℕ) → add a 0 ≡ a
+pub add-comm : (a b : ℕ) → add a b ≡ add b a
 unfolding add
-add-none a = xor-zero-r a
+add-comm a b = xor-comm a b
+
+pub add-zero : (a : ℕ) → add a 0 ≡ a
+unfolding add
+add-zero a = xor-zero-r a
 
 pub add-self : (a : ℕ) → add a a ≡ 0
 unfolding add
@@ -97,8 +102,8 @@ mul-bytes a b ha hb = mul-is a b ∙ ap₂ (product 8) (mod-eq-of-lt ha) (mod-eq
 pub mul-byte : (a b : ℕ) → mul a b < 256
 mul-byte a b = rw (mul-is a b) (product-byte 8 (a % 256) (b % 256) (byte a))
 
-pub mul-sym : (a b : ℕ) → mul a b ≡ mul b a
-mul-sym a b = mul-is a b ∙ product-comm (a % 256) (b % 256) (byte a) (byte b) ∙ sym (mul-is b a)
+pub mul-comm : (a b : ℕ) → mul a b ≡ mul b a
+mul-comm a b = mul-is a b ∙ product-comm (a % 256) (b % 256) (byte a) (byte b) ∙ sym (mul-is b a)
 
 pub mul-assoc : (a b c : ℕ) → mul (mul a b) c ≡ mul a (mul b c)
 mul-assoc a b c =
@@ -115,11 +120,11 @@ mul-add a b c =
     ∙ product-sum (a % 256) (b % 256) (c % 256) (byte a) (byte b) (byte c)
     ∙ sym (ap₂ bitXor (mul-is a b) (mul-is a c))
 
-pub mul-none : (a : ℕ) → mul a 0 ≡ 0
-mul-none a = mul-is a 0 ∙ product-of-zero 8 (a % 256)
+pub mul-zero : (a : ℕ) → mul a 0 ≡ 0
+mul-zero a = mul-is a 0 ∙ product-of-zero 8 (a % 256)
 
-pub none-mul : (a : ℕ) → mul 0 a ≡ 0
-none-mul a = mul-sym 0 a ∙ mul-none a
+pub zero-mul : (a : ℕ) → mul 0 a ≡ 0
+zero-mul a = mul-comm 0 a ∙ mul-zero a
 
 pub one-mul : (a : ℕ) → a < 256 → mul 1 a ≡ a
 one-mul a h = mul-bytes 1 a (omega arith) h ∙ tested a h .one-product
@@ -156,9 +161,9 @@ power-add a (suc i) j =
 -- the power of a power
 power-power : (a i n : ℕ) → power n (power i a) ≡ power (i * n) a
 unfolding power
-power-power a i zero = ap (λ (k : ℕ). power k a) (sym (mul-zero i))
+power-power a i zero = ap (λ (k : ℕ). power k a) (sym (Nat.mul-zero i))
 power-power a i (suc n) =
-    ap (mul (power i a)) (power-power a i n) ∙ power-add a i (i * n) ∙ ap (λ (k : ℕ). power k a) (add-comm i (i * n) ∙ sym (mul-suc i n))
+    ap (mul (power i a)) (power-power a i n) ∙ power-add a i (i * n) ∙ ap (λ (k : ℕ). power k a) (Nat.add-comm i (i * n) ∙ sym (mul-suc i n))
 
 up-none : up 0 1 ≡ 1
 unfolding up
@@ -190,21 +195,21 @@ mul-inverse a h n =
     sym (power-suc 254 a)
     ∙ ap (power 255) (sym e)
     ∙ power-power 3 (log a) 255
-    ∙ ap (λ (k : ℕ). power k 3) (mul-comm (log a) 255)
+    ∙ ap (λ (k : ℕ). power k 3) (Nat.mul-comm (log a) 255)
     ∙ cycle (log a)
 
-pub inverse-none : inverse 0 ≡ 0
+pub inverse-zero : inverse 0 ≡ 0
 unfolding inverse
-inverse-none = power-suc 253 0 ∙ none-mul (power 253 0)
+inverse-zero = power-suc 253 0 ∙ zero-mul (power 253 0)
 
 -- the only inverse
 pub inverse-only : (a b : ℕ) → a < 256 → a ≢ 0 → b < 256 → mul a b ≡ 1 → b ≡ inverse a
 inverse-only a b ha na hb e =
     sym (one-mul b hb)
-    ∙ ap (λ (x : ℕ). mul x b) (sym (mul-inverse a ha na) ∙ mul-sym a (inverse a))
+    ∙ ap (λ (x : ℕ). mul x b) (sym (mul-inverse a ha na) ∙ mul-comm a (inverse a))
     ∙ mul-assoc (inverse a) a b
     ∙ ap (mul (inverse a)) e
-    ∙ mul-sym (inverse a) 1
+    ∙ mul-comm (inverse a) 1
     ∙ one-mul (inverse a) (inverse-byte a)
 
 -- ---- what the code reads in its tables

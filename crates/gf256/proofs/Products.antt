@@ -1,17 +1,14 @@
 -- The product by Horner's rule, which takes the remainder at each step, is the remainder of the product. Sums go through it, and so does a product with 3.
 use mathlib.Core.Path.{_≡_, refl, sym, ap, ap₂, _∙_}
 use Prim.Native.Nat.{ℕ, zero, suc, _+_, _*_, _/_, _%_, _^_, _<_}
-use native.Mathlib.Nat.{mod-lt, zero-lt-suc, le-add-right, lt-of-lt-of-le, mul-assoc, mul-div-mul-right, div-eq-of-lt, pow-suc, add-suc}
+use native.Mathlib.Nat.{zero-lt-suc, le-add-right, lt-of-lt-of-le, mul-assoc, mul-div-mul-right, div-eq-of-lt, pow-suc, add-suc}
 use native.Mathlib.Omega.{arith}
 use lib.Bits.{bitXor, xor-shr, xor-mod, xor-zero-r, xor-self}
 use lib.Pow.{pow-mono}
 use Rattle.gf256.specs.Field.{scaled, times, modulus, remainder}
-use Rattle.gf256.proofs.Xor.{xor-four, xor-double}
+use Rattle.gf256.proofs.Xor.{bit-lt, xor-four, xor-double}
 
 -- ---- a polynomial times a coefficient
-
-coefficient : (a : ℕ) → a % 2 < 2
-coefficient a = mod-lt a (zero-lt-suc 1)
 
 scaled-xor : (s t c : ℕ) → s < 2 → t < 2 → scaled (bitXor s t) c ≡ bitXor (scaled s c) (scaled t c)
 scaled-xor zero t c hs ht = refl
@@ -31,7 +28,7 @@ clear k m p = bitXor p (scaled (p / 2 ^ k % 2) m)
 clear-sum : (k m p q : ℕ) → clear k m (bitXor p q) ≡ bitXor (clear k m p) (clear k m q)
 clear-sum k m p q =
     ap (λ (x : ℕ). bitXor (bitXor p q) (scaled x m)) (ap (λ (x : ℕ). x % 2) (xor-shr p q k) ∙ xor-mod (p / 2 ^ k) (q / 2 ^ k) 1)
-    ∙ ap (bitXor (bitXor p q)) (scaled-xor (p / 2 ^ k % 2) (q / 2 ^ k % 2) m (coefficient (p / 2 ^ k)) (coefficient (q / 2 ^ k)))
+    ∙ ap (bitXor (bitXor p q)) (scaled-xor (p / 2 ^ k % 2) (q / 2 ^ k % 2) m (bit-lt (p / 2 ^ k)) (bit-lt (q / 2 ^ k)))
     ∙ xor-four p q (scaled (p / 2 ^ k % 2) m) (scaled (q / 2 ^ k % 2) m)
 
 clear-small : (n m p : ℕ) → p < 256 → clear (8 + n) m p ≡ p

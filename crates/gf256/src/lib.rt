@@ -6,10 +6,11 @@ ghost use Rattle.gf256.specs.Field.{add, mul as mulOf, power as powerOf,
 ghost use Rattle.gf256.specs.Tables.{ArePowers, AreLogarithms};
 use binary::size;
 
-mod tables;
+mod logarithm_table;
+mod power_table;
 
-pub use tables::logarithms;
-pub use tables::powers;
+pub use logarithm_table::logarithms;
+pub use power_table::powers;
 
 pub fn sum(a: u8, b: u8) -> u8
     ensures { λ r. ⌜ r ≡ add a b ⌝ }

@@ -4,7 +4,7 @@ use mathlib.Core.Bool.{Bool, true, false, _&&_, not, and-eq-true-iff, true≢fal
 use mathlib.Core.List.{List, [], _∷_, List·Memᴰ, List·Memᴰ·head, List·Memᴰ·tail}
 use Prim.Native.Nat.{ℕ, zero, suc, _≤_, _<_}
 use native.Mathlib.Omega.{arith}
-use borrow.Author.Tests.{leb-true, le-leb, eqb-true, eq-eqb}
+use borrow.Author.Tests.{leb-true, le-leb, eqb-true, eq-eqb, not-true}
 use lib.Dec.{eqb, leb}
 use lib.ListN.{length, getD}
 use Rattle.lists.specs.Fold.{any, Distinct}
@@ -38,17 +38,13 @@ module _ (n : ℕ) where
     pub absent : any (eqb x) xs ≡ false
     pub rest : areNumbers n xs ≡ true
 
-  not-of : (b : Bool) → not b ≡ true → b ≡ false
-  not-of true e = sym e
-  not-of false e = refl
-
   first : (x : ℕ) (xs : List ℕ) → areNumbers n (x ∷ xs) ≡ true → First x xs
   unfolding areNumbers
   first x xs e =
       let p = and-eq-true-iff (leb 1 x && leb x n) _ .0 e in
       let q = and-eq-true-iff (leb 1 x) (leb x n) .0 (p .0) in
       let r = and-eq-true-iff (not (any (eqb x) xs)) (areNumbers n xs) .0 (p .1) in
-      record { above = leb-true 1 x (q .0); below = leb-true x n (q .1); absent = not-of (any (eqb x) xs) (r .0); rest = r .1 }
+      record { above = leb-true 1 x (q .0); below = leb-true x n (q .1); absent = not-true (any (eqb x) xs) (r .0); rest = r .1 }
 
   pub distinct-of : (xs : List ℕ) → areNumbers n xs ≡ true → Distinct xs
   distinct-of [] e = tt

@@ -2,15 +2,14 @@
 use mathlib.Core.Path.{_≡_, refl, sym, ap, _∙_}
 use mathlib.Core.Bool.{Bool, true, false}
 use mathlib.Core.List.{List, [], _∷_, _++_}
-use Prim.Native.Nat.{ℕ, zero, suc, _*_, _-_, _≤_, _<_}
-use native.Mathlib.Nat.{min-le-left}
-use native.Mathlib.Decide.{decLt}
+use Prim.Native.Nat.{ℕ, zero, suc, _*_, _-_, _≤_}
 use native.Mathlib.Omega.{arith}
 use borrow.Author.Tests.{le-leb}
-use lib.ListN.{length, take, drop, getD, length-append, length-take, List·getD-eq-default}
-use lib.Seq.{length-take-le, getD-take, getD-drop}
+use lib.ListN.{length, take, drop, length-append}
+use lib.Seq.{length-take-le, getD-take}
 use Rattle.lists.proofs.Tests.{clash}
 use Rattle.binary.specs.Number.{Bytes, byteAt, overwrite}
+use Rattle.binary.proofs.Number.{bytes-take, bytes-drop}
 use Rattle.shares.specs.declared.SplitAnswer.the-variants as Split
 use Rattle.shares.specs.declared.MergeAnswer.the-variants as Merge
 use Rattle.shares.specs.Polynomial.{valueAtZero}
@@ -25,13 +24,6 @@ use Rattle.shares.proofs.Arguments.{others, number-at, numbers-to}
 use Rattle.shares.proofs.Places.{writtenShares, picked-length, picked-bytes}
 
 -- ---- runs of bytes
-
-pub bytes-part : (m p : ℕ) (l : List ℕ) → Bytes l → Bytes (take m (drop p l))
-bytes-part m p l h i = go (decLt i m)
-  where
-    go : Dec (i < m) → getD (take m (drop p l)) i 0 < 256
-    go (yes b) = rw (getD-take m (drop p l) i 0 b, getD-drop p l i 0) (h _)
-    go (no b) = rw (List·getD-eq-default (take m (drop p l)) 0 (let e : length (take m (drop p l)) ≤ i = omega (arith, length-take m (drop p l), min-le-left m (length (drop p l))) in e)) (omega arith)
 
 pub numbers-bytes : (n : ℕ) (xs : List ℕ) → n ≤ mostShares → AreNumbers n xs → Bytes xs
 numbers-bytes n [] h a i = omega arith
@@ -55,8 +47,11 @@ split-was-given key k n cs out g = go (inRange k n) (splitFits key k n cs out) r
 
 -- ---- the key byte by byte
 
+pub coefficients-bytes : (k : ℕ) (cs : List ℕ) (b : ℕ) → Bytes cs → Bytes (coefficientsOf k cs b)
+coefficients-bytes k cs b h = bytes-take (k - 1) (drop ((k - 1) * b) cs) (bytes-drop ((k - 1) * b) cs h)
+
 pub polynomial-bytes : (k : ℕ) (key cs : List ℕ) (b : ℕ) → Bytes key → Bytes cs → Bytes (polynomialOf k key cs b)
-polynomial-bytes k key cs b hk hc = bytes-cons (byteAt b key) (coefficientsOf k cs b) (hk b) (bytes-part (k - 1) ((k - 1) * b) cs hc)
+polynomial-bytes k key cs b hk hc = bytes-cons (byteAt b key) (coefficientsOf k cs b) (hk b) (coefficients-bytes k cs b hc)
 
 module _ (k n : ℕ) (key cs out : List ℕ) (k-above : 2 ≤ k) (n-below : n ≤ mostShares) where
   key-bytes : (numbers rest : List ℕ) → Bytes key → Bytes cs → keySize ≤ length key → keySize * (k - 1) ≤ length cs → keySize * n ≤ length out

@@ -11,7 +11,7 @@ use lib.ListN.{length, getD, List·getD-eq-default}
 use lib.Seq.{ext-getD}
 use Rattle.binary.specs.Number.{byteAt}
 use Rattle.shares.specs.Polynomial.{values}
-use Rattle.shares.specs.Shares.{keySize, coefficientsOf, polynomialOf, bytesOf}
+use Rattle.shares.specs.Shares.{keySize, joined, coefficientsOf, polynomialOf, bytesOf}
 use Rattle.shares.specs.Calls.{splitOf}
 use Rattle.shares.specs.Claims.{InRange, AreNumbers, chosen, IsRun, Bijection, FewerSharesHideTheKey}
 use Rattle.shares.proofs.Tabulated.{tabulate-length, tabulate-at, tabulate-bytes}
@@ -19,9 +19,9 @@ use Rattle.shares.proofs.Turns.{coefficients-length}
 use Rattle.shares.proofs.Outcomes.{splitFits, split-given}
 use Rattle.shares.proofs.Arguments.{range-to}
 use Rattle.shares.proofs.Places.{values-length, writtenShares, picked-length, picked-byte}
-use Rattle.shares.proofs.GivingBack.{polynomial-bytes, bytes-part}
+use Rattle.shares.proofs.GivingBack.{coefficients-bytes, polynomial-bytes}
 use Rattle.shares.proofs.Hiding.{values-bytes, hides}
-use Rattle.shares.proofs.Parts.{joined, joined-length, joined-bytes, joined-part, parts-same}
+use Rattle.shares.proofs.Parts.{joined-length, joined-bytes, joined-part, parts-same}
 
 module _ (k n : ℕ) (r : InRange k n) (xs : List ℕ) (e : suc (length xs) ≡ k) (a : AreNumbers n xs) (key : List ℕ) (hk : IsRun keySize key) (out : List ℕ)
     (room : keySize * n ≤ length out) where
@@ -76,7 +76,7 @@ module _ (k n : ℕ) (r : InRange k n) (xs : List ℕ) (e : suc (length xs) ≡ 
   run-of : (cs : List ℕ) → IsRun (keySize * d) cs → (b : ℕ) → b < keySize → IsRun (length xs) (coefficientsOf k cs b)
   run-of cs h b l = record {
     size = coefficients-length k cs b l (omega (arith, h .size)) ∙ sym less;
-    bytes = bytes-part d (d * b) cs (h .bytes);
+    bytes = coefficients-bytes k cs b (h .bytes);
   }
 
   one-to-one : (cs ds : List ℕ) → IsRun (keySize * d) cs → IsRun (keySize * d) ds → held cs ≡ held ds → cs ≡ ds

@@ -8,10 +8,10 @@ use lib.ListN.{length}
 use Rattle.lists.specs.Fold.{Distinct}
 use Rattle.binary.specs.Number.{Bytes}
 use Rattle.gf256.specs.Field.{add, mul, divide}
-use Rattle.gf256.proofs.Laws.{add-sym, add-none, add-self, add-byte, mul-byte, mul-none, none-mul}
+use Rattle.gf256.proofs.Laws.{add-comm, add-zero, add-self, add-byte, mul-byte, mul-zero, zero-mul}
 use Rattle.shares.specs.Polynomial.{eval, values, slopes, valueAtZero}
 use Rattle.shares.specs.Claims.{Interpolates}
-use Rattle.shares.proofs.Algebra.{cancel, none-add, same, horner, product-divided, quotient-times}
+use Rattle.shares.proofs.Algebra.{cancel, zero-add, same, horner, product-divided, quotient-times}
 use Rattle.shares.proofs.Weighing.{slopes-length, slopes-bytes}
 
 -- ---- bytes, and numbers that differ
@@ -39,19 +39,19 @@ quotient x (d ∷ ds) = eval x (d ∷ ds) ∷ quotient x ds
 
 build-quotient : (x c : ℕ) (cs : List ℕ) → build x (eval x (c ∷ cs)) (quotient x cs) ≡ c ∷ cs
 unfolding build quotient eval
-build-quotient x c [] = ap (λ (k : ℕ). k ∷ []) (ap (add c) (mul-none x) ∙ add-none c)
+build-quotient x c [] = ap (λ (k : ℕ). k ∷ []) (ap (add c) (mul-zero x) ∙ add-zero c)
 build-quotient x c (d ∷ ds) = ap₂ (λ (k : ℕ) (l : List ℕ). k ∷ l) (cancel c (mul x (eval x (d ∷ ds)))) (build-quotient x d ds)
 
 eval-build : (u x y : ℕ) (q : List ℕ) → eval u (build x y q) ≡ add y (mul (add u x) (eval u q))
 unfolding build eval
-eval-build u x y [] = ap (add y) (mul-none u ∙ sym (mul-none (add u x)))
+eval-build u x y [] = ap (add y) (mul-zero u ∙ sym (mul-zero (add u x)))
 eval-build u x y (g ∷ q) = ap (λ (k : ℕ). add (add y (mul x g)) (mul u k)) (eval-build u x g q) ∙ horner y x u g (eval u q)
 
 eval-split : (u x c : ℕ) (cs : List ℕ) → eval u (c ∷ cs) ≡ add (eval x (c ∷ cs)) (mul (add u x) (eval u (quotient x cs)))
 eval-split u x c cs = ap (eval u) (sym (build-quotient x c cs)) ∙ eval-build u x (eval x (c ∷ cs)) (quotient x cs)
 
 eval-here : (x y : ℕ) (q : List ℕ) → eval x (build x y q) ≡ y
-eval-here x y q = eval-build x x y q ∙ ap (add y) (ap (λ (k : ℕ). mul k (eval x q)) (add-self x) ∙ none-mul (eval x q)) ∙ add-none y
+eval-here x y q = eval-build x x y q ∙ ap (add y) (ap (λ (k : ℕ). mul k (eval x q)) (add-self x) ∙ zero-mul (eval x q)) ∙ add-zero y
 
 pub eval-byte : (x : ℕ) (cs : List ℕ) → Bytes cs → eval x cs < 256
 unfolding eval
@@ -60,7 +60,7 @@ eval-byte x (c ∷ cs) b = add-byte c (mul x (eval x cs)) (b 0) (mul-byte x (eva
 
 pub eval-zero : (c : ℕ) (cs : List ℕ) → eval 0 (c ∷ cs) ≡ c
 unfolding eval
-eval-zero c cs = ap (add c) (none-mul (eval 0 cs)) ∙ add-none c
+eval-zero c cs = ap (add c) (zero-mul (eval 0 cs)) ∙ add-zero c
 
 quotient-bytes : (x : ℕ) (cs : List ℕ) → Bytes cs → Bytes (quotient x cs)
 unfolding quotient
@@ -94,7 +94,7 @@ slopes-values x c cs (u ∷ us) hx hc hu ha =
     let q = eval u (quotient x cs) in
     let p = mul (add u x) q in
     ap₂ (λ (k : ℕ) (l : List ℕ). k ∷ l)
-    (ap (λ (k : ℕ). divide k (add u x)) (ap (λ (k : ℕ). add k y) (eval-split u x c cs ∙ add-sym y p) ∙ cancel p y)
+    (ap (λ (k : ℕ). divide k (add u x)) (ap (λ (k : ℕ). add k y) (eval-split u x c cs ∙ add-comm y p) ∙ cancel p y)
     ∙ product-divided (add u x) q (add-byte u x (hu 0) hx) (λ e. differs ha (same u x e)) (eval-byte u (quotient x cs) (quotient-bytes x cs hc)))
     (slopes-values x c cs us hx hc (λ i. hu (suc i)) (absent-tail ha))
 
@@ -111,7 +111,7 @@ values-build x y q (u ∷ us) (v ∷ vs) hx hy hu hv ha n e =
     (eval-build u x y q
     ∙ ap (add y) (ap (mul (add u x)) h
     ∙ quotient-times (add u x) (add v y) (add-byte u x (hu 0) hx) (λ z. differs ha (same u x z)) (add-byte v y (hv 0) hy))
-    ∙ add-sym y (add v y)
+    ∙ add-comm y (add v y)
     ∙ cancel v y)
     (values-build x y q us vs hx hy (λ i. hu (suc i)) (λ i. hv (suc i)) (absent-tail ha) (omega arith) t)
 
@@ -127,7 +127,7 @@ value-at-zero (x ∷ xs) (c ∷ cs) n hx hc d =
     ap (λ (k : ℕ). add y (mul x k))
     (ap (valueAtZero xs) (slopes-values x c cs xs (hx 0) (λ i. hc (suc i)) (λ i. hx (suc i)) (d .0))
     ∙ value-at-zero xs (quotient x cs) (omega (arith, quotient-length x cs)) (λ i. hx (suc i)) (quotient-bytes x cs (λ i. hc (suc i))) (d .1))
-    ∙ ap (λ (k : ℕ). add y (mul k (eval 0 (quotient x cs)))) (sym (none-add x))
+    ∙ ap (λ (k : ℕ). add y (mul k (eval 0 (quotient x cs)))) (sym (zero-add x))
     ∙ sym (eval-split 0 x c cs)
 
 -- ---- exactly one polynomial

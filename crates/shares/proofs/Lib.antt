@@ -1,5 +1,6 @@
 -- Laws of shares.
 pub mod Tabulated
+pub mod Parts
 pub mod Turns
 pub mod Steps
 pub mod Algebra
@@ -11,6 +12,5 @@ pub mod Arguments
 pub mod Places
 pub mod GivingBack
 pub mod Hiding
-pub mod Parts
 pub mod HidingKeys
 pub mod Answering

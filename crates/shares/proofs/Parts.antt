@@ -8,14 +8,10 @@ use native.Mathlib.Omega.{arith}
 use lib.ListN.{length, take, drop, length-append, length-drop, take-append-drop}
 use lib.Seq.{take-append-le, drop-append-le, drop-at, take-all, drop-drop}
 use Rattle.binary.specs.Number.{Bytes}
+use Rattle.shares.specs.Shares.{joined}
 
 abbrev pub part : ℕ → ℕ → List ℕ → List ℕ
 part d b l = take d (drop (d * b) l)
-
--- the first m parts
-unfoldable pub joined : ℕ → (ℕ → List ℕ) → List ℕ
-joined zero f = []
-joined (suc m) f = joined m f ++ f m
 
 append-bytes : (l r : List ℕ) → Bytes l → Bytes r → Bytes (l ++ r)
 append-bytes [] r hl hr i = hr i

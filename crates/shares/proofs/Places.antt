@@ -2,16 +2,16 @@
 use mathlib.Core.Path.{_≡_, refl, sym, ap, ap₂, _∙_}
 use mathlib.Core.List.{List, [], _∷_, _++_, append-assoc}
 use Prim.Native.Nat.{ℕ, zero, suc, _+_, _*_, _-_, _≤_, _<_}
-use native.Mathlib.Decide.{decLt}
 use native.Mathlib.Omega.{arith}
 use lib.ListN.{length, drop, getD, length-append, length-drop, List·getD-append}
 use lib.Seq.{length-take-le, getD-take, getD-drop}
 use Rattle.binary.specs.Number.{overwrite}
 use Rattle.shares.specs.Polynomial.{eval, values}
-use Rattle.shares.specs.Shares.{keySize, polynomialOf, shareOf, sharesOf, bytesOf}
+use Rattle.shares.specs.Shares.{keySize, joined, polynomialOf, shareOf, sharesOf, bytesOf}
 use Rattle.shares.specs.Claims.{AreNumbers, shareIn, chosen}
 use Rattle.shares.proofs.Tabulated.{tabulate-at, tabulate-same, behind}
-use Rattle.shares.proofs.Writes.{shares-length}
+use Rattle.shares.proofs.Parts.{joined-part}
+use Rattle.shares.proofs.Writes.{share-length, shares-length}
 use Rattle.shares.proofs.Arguments.{others, number-at}
 
 -- ---- shares as they are written
@@ -19,20 +19,12 @@ use Rattle.shares.proofs.Arguments.{others, number-at}
 share-byte : (k : ℕ) (key cs : List ℕ) (n i b : ℕ) → i < n → b < keySize
     → getD (sharesOf k key cs n) (keySize * i + b) 0 ≡ eval (suc i) (polynomialOf k key cs b)
 unfolding sharesOf shareOf
-share-byte k key cs zero i b h l = absurd (omega arith)
-share-byte k key cs (suc n) i b h l = go (λ m. share-byte k key cs n i b m l) (decLt i n)
-  where
-    go : (i < n → getD (sharesOf k key cs n) (keySize * i + b) 0 ≡ eval (suc i) (polynomialOf k key cs b)) → Dec (i < n)
-        → getD (sharesOf k key cs n ++ shareOf k key cs (suc n)) (keySize * i + b) 0 ≡ eval (suc i) (polynomialOf k key cs b)
-    go before (yes m) =
-        List·getD-append (sharesOf k key cs n) (shareOf k key cs (suc n)) 0 (keySize * i + b) (omega (arith, shares-length k key cs n))
-        ∙ before m
-    go before (no m) =
-        let e : i ≡ n = omega arith in
-        ap (λ (j : ℕ). getD (sharesOf k key cs n ++ shareOf k key cs (suc n)) (keySize * j + b) 0) e
-        ∙ behind (sharesOf k key cs n) (shareOf k key cs (suc n)) (keySize * n) b (shares-length k key cs n)
-        ∙ tabulate-at keySize (λ c. eval (suc n) (polynomialOf k key cs c)) b l
-        ∙ ap (λ (j : ℕ). eval (suc j) (polynomialOf k key cs b)) (sym e)
+share-byte k key cs n i b h l =
+    let share : ℕ → List ℕ = λ j. shareOf k key cs (suc j) in
+    let all = joined n share in
+    sym (getD-take keySize (drop (keySize * i) all) b 0 l ∙ getD-drop (keySize * i) all b 0)
+    ∙ ap (λ (q : List ℕ). getD q b 0) (joined-part keySize share (λ j. share-length k key cs (suc j)) n i h)
+    ∙ tabulate-at keySize (λ c. eval (suc i) (polynomialOf k key cs c)) b l
 
 -- in a slice, in front of its tail
 pub written-byte : (k : ℕ) (key cs out : List ℕ) (n x b : ℕ) → 1 ≤ x → x ≤ n → b < keySize

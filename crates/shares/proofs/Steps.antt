@@ -4,7 +4,7 @@ use mathlib.Core.List.{List}
 use Prim.Native.Nat.{ℕ, _+_, _*_, _-_, _≤_, _<_}
 use native.Mathlib.Nat.{add-comm}
 use native.Mathlib.Omega.{arith}
-use lib.ListN.{length, take, drop, getD}
+use lib.ListN.{length, drop, getD}
 use lib.Seq.{getD-take, getD-drop}
 use Rattle.binary.specs.Number.{byteAt, overwrite}
 use Rattle.binary.specs.Splice.{splice}
@@ -14,7 +14,7 @@ use Rattle.shares.specs.Polynomial.{eval}
 use Rattle.shares.specs.Shares.{keySize, tabulate, coefficientsOf, polynomialOf, bytesOf}
 use Rattle.shares.specs.Code.{weightedSum, weighedKey}
 use Rattle.shares.proofs.Tabulated.{tabulate-length, tabulate-at, tabulate-ext, row-byte, row-again}
-use Rattle.shares.proofs.Turns.{eval-turn, eval-end, sum-turn, sum-end, coefficients-length}
+use Rattle.shares.proofs.Turns.{eval-turn, eval-end, sumUpTo, sum-turn, sum-end, coefficients-length}
 
 -- ---- a row
 
@@ -85,16 +85,12 @@ module _ (k x : ℕ) (key cs : List ℕ) (fits : keySize * (k - 1) ≤ length cs
 -- ---- the key
 
 module _ (ws shares : List ℕ) where
-  -- byte b once j shares are added
-  abbrev pub sumUpTo : ℕ → ℕ → ℕ
-  sumUpTo j b = weightedSum (take j ws) (bytesOf j shares b)
-
-  pub added : (j y b : ℕ) → j < length ws → y ≡ sumUpTo j b → add y (mul (getD ws j 0) (byteAt (keySize * j + b) shares)) ≡ sumUpTo (j + 1) b
+  pub added : (j y b : ℕ) → j < length ws → y ≡ sumUpTo ws shares j b → add y (mul (getD ws j 0) (byteAt (keySize * j + b) shares)) ≡ sumUpTo ws shares (j + 1) b
   added j y b h e = ap (λ (v : ℕ). add v (mul (getD ws j 0) (byteAt (keySize * j + b) shares))) e ∙ sum-turn ws shares b j h
 
-  pub all-added : (d₀ d : List ℕ) (j : ℕ) → j ≡ length ws → d ≡ splice d₀ 0 (tabulate keySize (sumUpTo j)) → d ≡ overwrite (weighedKey ws shares) d₀
+  pub all-added : (d₀ d : List ℕ) (j : ℕ) → j ≡ length ws → d ≡ splice d₀ 0 (tabulate keySize (sumUpTo ws shares j)) → d ≡ overwrite (weighedKey ws shares) d₀
   unfolding weighedKey
   all-added d₀ d j e w =
       w
-      ∙ ap (splice d₀ 0) (tabulate-ext keySize (sumUpTo j) (λ b. weightedSum ws (bytesOf (length ws) shares b)) (λ b _. sum-end ws shares b j e))
+      ∙ ap (splice d₀ 0) (tabulate-ext keySize (sumUpTo ws shares j) (λ b. weightedSum ws (bytesOf (length ws) shares b)) (λ b _. sum-end ws shares b j e))
       ∙ splice-overwrite d₀ _

@@ -11,7 +11,7 @@ use lib.ListN.{length, take, drop, getD, set, length-set, length-drop, drop-of-l
 use lib.Seq.{drop-cons, drop-length, drop-at, take-suc, take-all, length-take-le, set-split, getD-take}
 use Rattle.lists.specs.Fold.{any}
 use Rattle.gf256.specs.Field.{add, mul, divide}
-use Rattle.gf256.proofs.Laws.{add-assoc, add-sym}
+use Rattle.gf256.proofs.Laws.{add-assoc, add-comm}
 use Rattle.shares.specs.Polynomial.{eval}
 use Rattle.shares.specs.Shares.{keySize, tabulate, coefficientsOf, bytesOf, areNumbers}
 use Rattle.shares.specs.Code.{weighed, total, weights, weightedSum}
@@ -110,14 +110,18 @@ weigh-turn x us ws₀ (suc i) ws t w p n h e = rw (before i) (weigh-before x us 
 
 snoc : (ws ys : List ℕ) (w y : ℕ) → length ws ≡ length ys → weightedSum (ws ++ (w ∷ [])) (ys ++ (y ∷ [])) ≡ add (weightedSum ws ys) (mul w y)
 unfolding weightedSum
-snoc [] [] w y n = add-sym (mul w y) 0
+snoc [] [] w y n = add-comm (mul w y) 0
 snoc [] (v ∷ ys) w y n = absurd (omega arith)
 snoc (u ∷ ws) [] w y n = absurd (omega arith)
 snoc (u ∷ ws) (v ∷ ys) w y n = ap (add (mul u v)) (snoc ws ys w y (omega arith)) ∙ sym (add-assoc (mul u v) (weightedSum ws ys) (mul w y))
 
+-- byte b once j shares are added
+abbrev pub sumUpTo : List ℕ → List ℕ → ℕ → ℕ → ℕ
+sumUpTo ws shares j b = weightedSum (take j ws) (bytesOf j shares b)
+
 module _ (ws shares : List ℕ) (b : ℕ) where
   abbrev sumTo : ℕ → ℕ
-  sumTo j = weightedSum (take j ws) (bytesOf j shares b)
+  sumTo j = sumUpTo ws shares j b
 
   pub sum-none : 0 ≡ sumTo 0
   unfolding weightedSum

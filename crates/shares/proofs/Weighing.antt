@@ -6,10 +6,10 @@ use native.Mathlib.Omega.{arith}
 use lib.ListN.{length}
 use Rattle.binary.specs.Number.{Bytes}
 use Rattle.gf256.specs.Field.{add, mul, inverse, divide}
-use Rattle.gf256.proofs.Laws.{add-assoc, add-sym, add-none, mul-byte, mul-sym, mul-assoc, mul-add, mul-none, none-mul, one-mul}
+use Rattle.gf256.proofs.Laws.{add-assoc, add-four, add-comm, add-zero, mul-byte, mul-comm, mul-assoc, mul-add, mul-zero, zero-mul, one-mul}
 use Rattle.shares.specs.Polynomial.{slopes, valueAtZero}
 use Rattle.shares.specs.Code.{weighed, total, weights, weightedSum}
-use Rattle.shares.proofs.Algebra.{add-four, add-mul, mul-left}
+use Rattle.shares.proofs.Algebra.{add-mul, mul-left}
 
 pub slopes-length : (x y : ℕ) (us vs : List ℕ) → length us ≡ length vs → length (slopes x y us vs) ≡ length us
 unfolding slopes
@@ -41,15 +41,15 @@ term x y u v w =
     let i = inverse (add u x) in
     let s = add v y in
     mul-left x w (mul s i)
-    ∙ ap (mul w) (mul-left x s i ∙ mul-sym s (mul x i))
+    ∙ ap (mul w) (mul-left x s i ∙ mul-comm s (mul x i))
     ∙ sym (mul-assoc w (mul x i) s)
     ∙ mul-add (mul w (mul x i)) v y
-    ∙ add-sym (mul (mul w (mul x i)) v) (mul (mul w (mul x i)) y)
+    ∙ add-comm (mul (mul w (mul x i)) v) (mul (mul w (mul x i)) y)
 
 sum-slopes : (x y : ℕ) (us ws vs : List ℕ) → length us ≡ length ws → length us ≡ length vs → let zs = weighed x us ws in
     mul x (weightedSum ws (slopes x y us vs)) ≡ add (mul (total zs) y) (weightedSum zs vs)
 unfolding weighed total weightedSum slopes
-sum-slopes x y [] [] vs m n = mul-none x ∙ sym (ap (λ (k : ℕ). add k 0) (none-mul y) ∙ add-none 0)
+sum-slopes x y [] [] vs m n = mul-zero x ∙ sym (ap (λ (k : ℕ). add k 0) (zero-mul y) ∙ add-zero 0)
 sum-slopes x y [] (w ∷ ws) vs m n = absurd (omega arith)
 sum-slopes x y (u ∷ us) [] vs m n = absurd (omega arith)
 sum-slopes x y (u ∷ us) (w ∷ ws) [] m n = absurd (omega arith)

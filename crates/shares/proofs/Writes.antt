@@ -1,7 +1,7 @@
 -- What the loops over shares and key bytes write.
 use mathlib.Core.Path.{_≡_, refl, sym, ap, ap₂, _∙_}
 use mathlib.Core.List.{List, _++_}
-use Prim.Native.Nat.{ℕ, zero, suc, _+_, _-_, _*_, _≤_}
+use Prim.Native.Nat.{ℕ, suc, _+_, _-_, _*_, _≤_}
 use native.Mathlib.Nat.{zero-add, sub-zero}
 use native.Mathlib.Numerals.{add-one}
 use native.Mathlib.Omega.{arith}
@@ -11,9 +11,10 @@ use Rattle.binary.specs.Number.{Bytes, overwrite}
 use Rattle.binary.specs.Splice.{splice}
 use Rattle.binary.proofs.Splices.{splice-overwrite, splice-splice}
 use Rattle.shares.specs.Polynomial.{eval, valueAtZero}
-use Rattle.shares.specs.Shares.{keySize, tabulate, polynomialOf, shareOf, sharesOf, bytesOf, mergedKey}
+use Rattle.shares.specs.Shares.{keySize, tabulate, joined, polynomialOf, shareOf, sharesOf, bytesOf, mergedKey}
 use Rattle.shares.specs.Code.{weights, weightedSum, weighedKey}
 use Rattle.shares.proofs.Tabulated.{tabulate-length, tabulate-ext, tabulate-bytes}
+use Rattle.shares.proofs.Parts.{joined-length}
 use Rattle.shares.proofs.Weighing.{weights-length, sum-is-value}
 
 -- ---- shares
@@ -25,18 +26,16 @@ module _ (k : ℕ) (key cs : List ℕ) where
 
   pub shares-length : (n : ℕ) → length (sharesOf k key cs n) ≡ keySize * n
   unfolding sharesOf
-  shares-length zero = refl
-  shares-length (suc n) =
-      length-append (sharesOf k key cs n) (shareOf k key cs (suc n)) ∙ (omega (arith, shares-length n, share-length (suc n)))
+  shares-length n = joined-length keySize (λ i. shareOf k key cs (suc i)) (λ i. share-length (suc i)) n
 
   pub shares-none : (d : List ℕ) → d ≡ overwrite (sharesOf k key cs 0) d
-  unfolding sharesOf overwrite
+  unfolding sharesOf joined overwrite
   shares-none d = refl
 
   -- one share more
   pub shares-more : (d₀ d d′ : List ℕ) (n x : ℕ) → d ≡ overwrite (sharesOf k key cs n) d₀ → x ≡ n + 1 → keySize * n ≤ length d₀
       → d′ ≡ splice d (keySize * n) (shareOf k key cs x) → d′ ≡ overwrite (sharesOf k key cs (n + 1)) d₀
-  unfolding sharesOf
+  unfolding sharesOf joined
   shares-more d₀ d d′ n x w e h s =
       let at : 0 + length (sharesOf k key cs n) ≡ keySize * n = zero-add (length (sharesOf k key cs n)) ∙ shares-length n in
       s

@@ -20,6 +20,11 @@ unfoldable pub tabulate : ℕ → (ℕ → ℕ) → List ℕ
 tabulate zero f = []
 tabulate (suc n) f = tabulate n f ++ (f n ∷ [])
 
+-- f 0, f 1, .., n lists, one behind the other
+unfoldable pub joined : ℕ → (ℕ → List ℕ) → List ℕ
+joined zero f = []
+joined (suc n) f = joined n f ++ f n
+
 -- ---- split
 
 -- those of key byte b, of "the k-1 coefficients of each byte .. lent in rising degree, key byte by key byte"
@@ -36,8 +41,7 @@ shareOf k key cs i = tabulate keySize (λ b. eval i (polynomialOf k key cs b))
 
 -- "written from share 1 to n"
 unfoldable pub sharesOf : ℕ → List ℕ → List ℕ → ℕ → List ℕ
-sharesOf k key cs zero = []
-sharesOf k key cs (suc n) = sharesOf k key cs n ++ shareOf k key cs (suc n)
+sharesOf k key cs n = joined n (λ i. shareOf k key cs (suc i))
 
 -- ---- merge
 

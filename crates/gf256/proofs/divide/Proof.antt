@@ -1,14 +1,14 @@
 use mathlib.Core.Path.{_≡_, _∙_}
-use Rattle.gf256.proofs.Laws.{mul-none, none-mul, inverse-none, divide-logs}
+use Rattle.gf256.proofs.Laws.{mul-zero, zero-mul, inverse-zero, divide-logs}
 use borrow.Author.Needs.{needs}
 use Rattle.gf256.proofs.divide.Statement.{statement}
 use Rattle.gf256.proofs.divide.Tie as tie
 
 returns : tie.Need-returns
-returns c = let e : c .before .before .before .args .a ≡ 0 = search needs in rw (e, none-mul)
+returns c = let e : c .before .before .before .args .a ≡ 0 = search needs in rw (e, zero-mul)
 
 returns-2 : tie.Need-returns-2
-returns-2 c = let e : c .before .before .before .before .args .b ≡ 0 = search needs in rw (e, inverse-none, mul-none)
+returns-2 c = let e : c .before .before .before .before .args .b ≡ 0 = search needs in rw (e, inverse-zero, mul-zero)
 
 log-requires : tie.Need-log-requires
 log-requires c κs = search needs

@@ -5,8 +5,8 @@ use native.Mathlib.Omega.{arith}
 use lib.ListN.{length, getD}
 use Rattle.binary.specs.Splice.{splice}
 use Rattle.shares.specs.Shares.{keySize, tabulate}
-use Rattle.shares.proofs.Turns.{sum-none}
-use Rattle.shares.proofs.Steps.{row-step, row-start, row-end, sumUpTo, added, all-added}
+use Rattle.shares.proofs.Turns.{sumUpTo, sum-none}
+use Rattle.shares.proofs.Steps.{row-step, row-start, row-end, added, all-added}
 use borrow.Author.Needs.{needs}
 use Rattle.shares.proofs.merging.put_sum.Statement.{statement}
 use Rattle.shares.proofs.merging.put_sum.Tie as tie

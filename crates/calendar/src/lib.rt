@@ -1,4 +1,6 @@
 // Dates: the Gregorian calendar from 1970-01-01 to 2099-12-31.
+#![tactic(auto)]
+
 ghost use Rattle.std.specs.Prelude.{◌≡◌, cond, ◌+◌, ◌-◌, ◌%◌, ◌≤◌, ◌<◌, length};
 ghost use Rattle.binary.specs.Splice.{splice};
 ghost use Rattle.calendar.specs.Calendar.{is_leap, date_of, years_days};
@@ -15,7 +17,7 @@ pub use reading::{DATE_SIZE, day_in};
 pub const LAST_DAY: u32 = 47481;
 
 // A day of the calendar: month and day are counted from 1.
-#[derive(Drop)]
+#[derive(Clone, Copy)]
 pub struct Date {
     pub year: u16,
     pub month: u8,
@@ -23,7 +25,7 @@ pub struct Date {
 }
 
 // The day of a text, where it is that of a date.
-#[derive(Drop)]
+#[derive(Clone, Copy)]
 pub enum DayRead {
     Read(u32),
     Malformed,

@@ -1,4 +1,6 @@
 // The checkpoint: a state as 1,110 bytes, and the earlier kind without notices, which is read.
+#![tactic(auto)]
+
 use state::{Cycle, Day, Minima};
 
 mod check;
@@ -11,7 +13,7 @@ pub use read::{current_state_in, cycle_in, standing_in, state_in};
 pub use write::write_checkpoint;
 
 // The numbers of a state, which stand before its tables.
-#[derive(Drop)]
+#[derive(Clone, Copy)]
 pub struct Head {
     pub cycle: Cycle,
     pub day: Day,

@@ -1,4 +1,6 @@
 // Numbers written in decimal, and read.
+#![tactic(auto)]
+
 mod reading;
 
 ghost use Rattle.std.specs.Prelude.{◌≡◌, ◌++◌, ◌+◌, ◌^◌, ◌≤◌, ◌<◌, length, replicate};
@@ -12,7 +14,7 @@ pub use reading::{Number, is_digit, number_at};
 pub const MOST_DIGITS: usize = 20;
 
 // Decimal digits, from an index up to the end, with spaces in front.
-#[derive(Drop)]
+#[derive(Clone, Copy)]
 struct Digits {
     bytes: [u8; MOST_DIGITS],
     from: usize,

@@ -4,7 +4,7 @@ ghost use Rattle.decimal.specs.Decimal.{is_digit};
 ghost use Rattle.decimal.specs.Code.{digits_in, most_read};
 
 // A number that was read, and where its digits end.
-#[derive(Drop)]
+#[derive(Clone, Copy)]
 pub struct Number {
     pub value: u64,
     pub end: usize,

@@ -1,4 +1,6 @@
 // The field of 256 elements with polynomial 0x11B. Products go by tables, which are read at places that depend on the operands: timing is not covered.
+#![tactic(auto)]
+
 ghost use Rattle.std.specs.Prelude.{◌≡◌, ◌≢◌, ◌<◌};
 ghost use Rattle.gf256.specs.Field.{add, mul as mul_of, power as power_of, divide as divide_of};
 ghost use Rattle.gf256.specs.Tables.{ArePowers, AreLogarithms};

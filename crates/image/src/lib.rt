@@ -1,4 +1,6 @@
 // The image: a node as 1,144 bytes, which the firmware keeps from one call to the next.
+#![tactic(auto)]
+
 pub mod layout;
 mod read;
 mod write;

@@ -90,7 +90,7 @@ module _ {A : Type 0} {P : A → Type 0} where
   pub all_take : {xs : List A} (n : ℕ) → All P xs → All P (take n xs)
   all_take zero h = none
   all_take (suc n) none = none
-  all_take (suc n) (more h t) = more h (all_take n t)
+  all_take (suc n) (more {x = x} {xs = xs} h t) = more h (all_take {xs = xs} n t)
 
   pub all_set : {xs : List A} {y : A} (i : ℕ) → All P xs → P y → All P (set xs i y)
   all_set i none h = none

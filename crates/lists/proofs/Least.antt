@@ -40,7 +40,7 @@ module _ {A : Type 0} (before : A → A → Bool) (Below : A → A → Type 0) (
   least_first x [] = itself x
   least_first x (y ∷ ys) = through _ _ _ (least_first (cond (before y x) y x) ys) (of_two x y).0
 
-  pub least-all : (x : A) {y : A} {xs : List A} → Memᴰ y xs → Below (least before x xs) y
+  pub least-all : {y : A} (x : A) {xs : List A} → Memᴰ y xs → Below (least before x xs) y
   unfolding least
   least-all x (Memᴰ.head {x = y} {xs = ys} e) =
       rw e (through _ _ _ (least_first (cond (before y x) y x) ys) (of_two x y).1)

@@ -17,6 +17,7 @@ use Rattle.lists.proofs.Every.{All, none, more}
 -- ---- members
 
 pub all_in : {A : Type 0} {P : A → Type 0} {x : A} {xs : List A} → All P xs → Memᴰ x xs → P x
+all_in none m = elim m [ ]
 all_in (more h t) (Memᴰ.head e) = rw e h
 all_in (more h t) (Memᴰ.tail m) = all_in t m
 

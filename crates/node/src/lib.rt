@@ -1,4 +1,6 @@
 // The node, and what each of its calls hands back.
+#![tactic(auto)]
+
 use state::State;
 use verdicts::{AttemptCounts, Own};
 
@@ -8,7 +10,7 @@ mod queries;
 pub use calls::blank_node;
 pub use queries::{ask, ask_lent};
 
-#[derive(Drop)]
+#[derive(Clone, Copy)]
 pub struct Node {
     pub state: State,
     pub own: Own,
@@ -16,71 +18,71 @@ pub struct Node {
 }
 
 // Refused holds the number of the rule.
-#[derive(Drop)]
+#[derive(Clone, Copy)]
 pub enum StartAnswer {
     Started,
     Refused(u8),
 }
 
-#[derive(Drop)]
+#[derive(Clone, Copy)]
 pub enum DeliverAnswer {
     Done,
     Voted,
     Refused(u8),
 }
 
-#[derive(Drop)]
+#[derive(Clone, Copy)]
 pub enum QueryAnswer {
     Open,
     Refused(u8),
 }
 
-#[derive(Drop)]
+#[derive(Clone, Copy)]
 pub enum CheckpointAnswer {
     Given,
     Refused(u8),
 }
 
 // Given holds the number of lines.
-#[derive(Drop)]
+#[derive(Clone, Copy)]
 pub enum PageAnswer {
     Given(u8),
     Refused(u8),
 }
 
 // A refused start yields no node: the blank one stands for it.
-#[derive(Drop)]
+#[derive(Clone, Copy)]
 pub struct StartReply {
     pub node: Node,
     pub answer: StartAnswer,
 }
 
-#[derive(Drop)]
+#[derive(Clone, Copy)]
 pub struct DeliverReply {
     pub node: Node,
     pub answer: DeliverAnswer,
 }
 
-#[derive(Drop)]
+#[derive(Clone, Copy)]
 pub struct QueryReply {
     pub node: Node,
     pub answer: QueryAnswer,
 }
 
 // An answer, and the counts of misses after it.
-#[derive(Drop)]
+#[derive(Clone, Copy)]
 pub struct CountedAnswer {
     pub counts: AttemptCounts,
     pub answer: QueryAnswer,
 }
 
-#[derive(Drop)]
+#[derive(Clone, Copy)]
 pub struct CheckpointReply {
     pub node: Node,
     pub answer: CheckpointAnswer,
 }
 
-#[derive(Drop)]
+#[derive(Clone, Copy)]
 pub struct PageReply {
     pub node: Node,
     pub answer: PageAnswer,

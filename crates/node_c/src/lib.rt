@@ -1,3 +1,5 @@
 // The calls for C.
+#![tactic(auto)]
+
 mod entries;
 mod partial_keys;

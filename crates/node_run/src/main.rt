@@ -1,5 +1,7 @@
 // node-run: answers the requests on standard input, each with a line on standard output. What a request comes to and what its line says is
 // requests::take_step and requests::put_line; here is what reads and writes.
+#![tactic(auto)]
+
 ghost use Rattle.std.specs.Prelude.{◌≡◌, true, ◌≤◌, ◌<◌, length, take};
 ghost use Rattle.requests.specs.Framing.{request_room};
 ghost use Rattle.requests.specs.Lines.{line_room};
@@ -19,7 +21,7 @@ const OUTPUT: usize = 65536;
 const LAST_ORDINAL: u64 = 18446744073709551615;
 
 // What is kept from request to request.
-#[derive(Drop)]
+#[derive(Clone, Copy)]
 struct Run {
     node: Node,
     // Of the next request.
@@ -38,7 +40,7 @@ struct Run {
 }
 
 // Up to where a buffer holds input, and whether a read gave nothing.
-#[derive(Drop)]
+#[derive(Clone, Copy)]
 struct Filled {
     to: usize,
     exhausted: bool,

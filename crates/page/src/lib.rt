@@ -1,4 +1,6 @@
 // The access page: the login list as text, a line for each login.
+#![tactic(auto)]
+
 mod columns;
 pub mod layout;
 mod lines;
@@ -6,7 +8,7 @@ mod lines;
 pub use lines::write_page;
 
 // What a line says of its login on a day.
-#[derive(Drop)]
+#[derive(Clone, Copy)]
 pub enum Word {
     Open,
     Ended,

@@ -1,4 +1,6 @@
 // The records that a node is handed: announcement, sheet, start and query.
+#![tactic(auto)]
+
 use state::{Cycle, Day, Login, Minima, Subject};
 
 mod actions;
@@ -12,7 +14,7 @@ pub use sheets::{is_sheet, reaches_quorum};
 pub use start_query::{read_query, read_start};
 
 // The nine actions, one case per kind, 1 to 9, with its arguments.
-#[derive(Drop)]
+#[derive(Clone, Copy)]
 pub enum Action {
     Propose { subject: Subject },
     Cancel { cycle: Cycle },
@@ -27,34 +29,34 @@ pub enum Action {
 }
 
 // What the park is asked to do in a cycle, announced on a day.
-#[derive(Drop)]
+#[derive(Clone, Copy)]
 pub struct Announcement {
     pub cycle: Cycle,
     pub day: Day,
     pub action: Action,
 }
 
-#[derive(Drop)]
+#[derive(Clone, Copy)]
 pub enum AnnouncementRead {
     Read(Announcement),
     Malformed,
 }
 
 // Which seat a node takes, and under which life.
-#[derive(Drop)]
+#[derive(Clone, Copy)]
 pub struct Start {
     pub seat: u8,
     pub life: u32,
 }
 
-#[derive(Drop)]
+#[derive(Clone, Copy)]
 pub enum StartRead {
     Read(Start),
     Malformed,
 }
 
 // May this login use this right on this day, at this door?
-#[derive(Drop)]
+#[derive(Clone, Copy)]
 pub struct Query {
     pub login: u32,
     pub day: Day,
@@ -62,7 +64,7 @@ pub struct Query {
     pub door: u8,
 }
 
-#[derive(Drop)]
+#[derive(Clone, Copy)]
 pub enum QueryRead {
     Read(Query),
     Malformed,

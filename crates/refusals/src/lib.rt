@@ -1,4 +1,6 @@
 // Refusal numbers: the lowest number of the table of no that applies, or 0 where none does.
+#![tactic(auto)]
+
 ghost use Rattle.std.specs.Prelude.{◌≡◌};
 ghost use Rattle.refusals.specs.Refusals.{refuse_if, lowest, ◌or_else◌};
 

@@ -1,4 +1,6 @@
 // The requests of node-run: where each one ends in the input, its answer, and the line that is printed.
+#![tactic(auto)]
+
 use node::Node;
 
 mod framing;
@@ -12,7 +14,7 @@ pub use steps::take_step;
 pub use windows::shift;
 
 // The record at the front of the input.
-#[derive(Drop)]
+#[derive(Clone, Copy)]
 pub enum Frame {
     // Its bytes, the length field with them, and its kind.
     Record { size: usize, kind: u16 },
@@ -20,7 +22,7 @@ pub enum Frame {
     Cut,
 }
 
-#[derive(Drop)]
+#[derive(Clone, Copy)]
 pub enum Answer {
     Started,
     Voted,
@@ -30,7 +32,7 @@ pub enum Answer {
 }
 
 // What became of the request at the front of the input.
-#[derive(Drop)]
+#[derive(Clone, Copy)]
 pub struct Step {
     // The blank node stands for none.
     pub node: Node,

@@ -94,7 +94,7 @@ fn rights_at(text: &[u8], at: usize) -> FieldRead
 }
 
 // Where the value of a field begins, and whether the field is quoted.
-#[derive(Drop)]
+#[derive(Clone, Copy)]
 struct Opening {
     quoted: bool,
     from: usize,

@@ -16,7 +16,7 @@ use state::Login;
 pub const LINE_ROOM: usize = 28;
 
 // A line, and how many of the bytes it is.
-#[derive(Drop)]
+#[derive(Clone, Copy)]
 pub struct Line {
     pub bytes: [u8; LINE_ROOM],
     pub length: usize,

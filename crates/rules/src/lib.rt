@@ -1,4 +1,6 @@
 // Rules 4 to 14: the lowest number that applies to an announcement, or 0.
+#![tactic(auto)]
+
 mod checks;
 
 ghost use Rattle.std.specs.Prelude.{◌≡◌};
@@ -29,7 +31,7 @@ use tables::proposals::mature_proposal;
 use tables::{Eviction, NO_EVICTION};
 
 // What the rules ask of the tables and the action uses.
-#[derive(Drop)]
+#[derive(Clone, Copy)]
 pub struct Found {
     // The number of present seats.
     pub present: u8,

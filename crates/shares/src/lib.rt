@@ -1,4 +1,6 @@
 // Partial keys: a key of 32 bytes split among trustees, renewed by sums of shares, and merged again.
+#![tactic(auto)]
+
 mod adding;
 mod checks;
 mod merging;
@@ -14,20 +16,20 @@ pub const KEY_SIZE: usize = 32;
 pub const MOST_SHARES: usize = 16;
 
 // Given holds the number of shares.
-#[derive(Drop)]
+#[derive(Clone, Copy)]
 pub enum SplitAnswer {
     Given(u8),
     Refused(u8),
 }
 
-#[derive(Drop)]
+#[derive(Clone, Copy)]
 pub enum MergeAnswer {
     Given,
     Refused(u8),
 }
 
 // Given holds the number of bytes.
-#[derive(Drop)]
+#[derive(Clone, Copy)]
 pub enum AddAnswer {
     Given(usize),
     Refused(u8),

@@ -1,4 +1,6 @@
 // The replicated state of a park (01: the synchronised state), and the helpers of days and cycles.
+#![tactic(auto)]
+
 pub mod kinds;
 pub mod limits;
 mod ranges;
@@ -15,22 +17,22 @@ ghost use Rattle.state.specs.Rows.{is_proposal, is_login, is_ended, is_held, hol
 use crate::limits::{LAST_CYCLE, LOGIN_ROWS, PROPOSAL_ROWS, RIGHTS, SEATS};
 
 // A count of days from 1970-01-01.
-#[derive(Drop)]
+#[derive(Clone, Copy)]
 pub struct Day(pub u32);
 
 // The number of performed actions plus 1.
-#[derive(Drop)]
+#[derive(Clone, Copy)]
 pub struct Cycle(pub u32);
 
 // The least numbers of days from a proposal to its action: the restart notice is that of a rejoin, the ordinary one that of the other kinds.
-#[derive(Drop)]
+#[derive(Clone, Copy)]
 pub struct Notices {
     pub ordinary: u8,
     pub restart: u8,
 }
 
 // What the park asks of its quorums, of the age of what a node has heard and of its notices (01: the minima).
-#[derive(Drop)]
+#[derive(Clone, Copy)]
 pub struct Minima {
     // The margin m, the least quorum k and the silence limit S in days.
     pub margin: u8,
@@ -40,7 +42,7 @@ pub struct Minima {
 }
 
 // A node's place in the park. A free seat is all zero.
-#[derive(Drop)]
+#[derive(Clone, Copy)]
 pub struct Seat {
     pub standing: u8,
     // Which of the vaults that held this seat in turn is the listed one.
@@ -48,14 +50,14 @@ pub struct Seat {
 }
 
 // An action that needs a notice: its kind, and its first 8 argument bytes as one little-endian number.
-#[derive(Drop)]
+#[derive(Clone, Copy)]
 pub struct Subject {
     pub kind: u16,
     pub arguments: u64,
 }
 
 // A notice that its subject is intended, and in which cycle and on which day it was announced. An unused row is all zero.
-#[derive(Drop)]
+#[derive(Clone, Copy)]
 pub struct Proposal {
     pub cycle: Cycle,
     pub day: Day,
@@ -63,7 +65,7 @@ pub struct Proposal {
 }
 
 // A login, its last day and a bit for each right that it holds. An unused row is all zero.
-#[derive(Drop)]
+#[derive(Clone, Copy)]
 pub struct Login {
     pub login: u32,
     pub end: Day,
@@ -71,7 +73,7 @@ pub struct Login {
 }
 
 // What all nodes of a park agree on.
-#[derive(Drop)]
+#[derive(Clone, Copy)]
 pub struct State {
     pub cycle: Cycle,
     // The agreed day: that of the last performed announcement.

@@ -1,4 +1,6 @@
 // The own part of a node, its counts of misses, and the lowest number of the table of no for each call.
+#![tactic(auto)]
+
 mod attempts;
 mod calls;
 mod own_part;
@@ -11,7 +13,7 @@ use records::layout::{ANNOUNCEMENT_SIZE, DOORS};
 pub const MOST_MISSES: u8 = 10;
 
 // What is a node's alone (01: its own part), but for the misses, which stand by themselves so that they can be lent to a query.
-#[derive(Drop)]
+#[derive(Clone, Copy)]
 pub struct Own {
     pub seat: u8,
     pub life: u32,
@@ -21,7 +23,7 @@ pub struct Own {
 }
 
 // The bad queries in a row at each door, 0 to 10 (02: the tally of doors).
-#[derive(Drop)]
+#[derive(Clone, Copy)]
 pub struct AttemptCounts {
     pub misses: [u8; DOORS],
 }

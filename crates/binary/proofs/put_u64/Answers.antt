@@ -1,0 +1,12 @@
+use native.Mathlib.Omega.{arith}
+use Rattle.binary.proofs.Splices.{then-put}
+use Rattle.binary.proofs.Number.{number-length, bytes_halves}
+use borrow.Author.Rules.{rules}
+use Rattle.binary.proofs.put_u64.Goals as goal
+
+pub returns : goal.returns
+returns c =
+    let second = c in
+    let first = second in
+    rw (← bytes_halves first.args.x)
+    (then-put _ _ _ _ _ _ _ second.put_u32-2.ensures first.put_u32.ensures (simp number-length) (omega arith))

@@ -1,0 +1,9 @@
+use Rattle.decimal.proofs.Stored.{Stored, stored-none, stored_one, stored-all}
+use native.Mathlib.Omega.{arith}
+use Rattle.decimal.proofs.digits_of.Given as goal
+
+abbrev pub invariant-loop-rest : goal.invariant-loop-rest
+invariant-loop-rest l = Stored l.x l.from l.rest l.bytes
+
+abbrev pub decreases-loop-rest : goal.decreases-loop-rest
+decreases-loop-rest l = l.from

@@ -1,0 +1,7 @@
+use Rattle.records.specs.Announcement.{read_presents}
+use borrow.Author.Rules.{rules}
+use Rattle.records.proofs.announcements.read_presents.Goals as goal
+
+pub returns : goal.returns
+unfolding read_presents
+returns c = rw (← c.is_zero_from.ensures) c.announcing.ensures

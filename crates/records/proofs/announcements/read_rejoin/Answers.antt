@@ -1,0 +1,7 @@
+use Rattle.records.specs.Announcement.{read_rejoin}
+use borrow.Author.Rules.{rules}
+use Rattle.records.proofs.announcements.read_rejoin.Goals as goal
+
+pub returns : goal.returns
+unfolding read_rejoin
+returns c = rw (← c.u32_at-life.ensures, ← c.is_zero_from.ensures) c.announcing.ensures

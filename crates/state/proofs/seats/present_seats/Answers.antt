@@ -1,0 +1,25 @@
+use Prim.Native.Nat.{◌+◌, ◌-◌, ◌≤◌, ◌<◌}
+use mathlib.Core.Path.{◌≡◌, sym, ◌∙◌}
+use mathlib.Core.Logic.{⊎_elim}
+use native.Mathlib.Omega.{arith}
+use lib.ListN.{length, drop}
+use Rattle.lists.specs.Fold.{count}
+use Rattle.lists.proofs.Loops.{count-pass, count-fail, count-end}
+use Rattle.state.specs.Limits.{seat_count}
+use Rattle.state.specs.Seats.{is_present, present_seats}
+use borrow.Author.Rules.{rules}
+use Rattle.state.proofs.seats.present_seats.Goals.{else-is_present, then-is_present}
+use Rattle.state.proofs.seats.present_seats.Goals as goal
+
+pub loop-i-preserved : goal.loop-i-preserved
+loop-i-preserved c =
+    let b = c in
+    let h : b.loop-i.i < length b.args.seats = search rules in
+    let e = sym c.is_present.ensures in
+    elim c.if-is_present.branch [ then-is_present w ↦ omega (arith, count-pass is_present b.args.seats b.loop-i.i _ h (e ∙ w.if-is_present.true)) | else-is_present w ↦ omega (arith, count-fail is_present b.args.seats b.loop-i.i _ h (e ∙ w.if-is_present.false)) ]
+
+pub returns : goal.returns
+unfolding present_seats
+returns c =
+    let h : length c.args.seats ≤ c.loop-i.i = search rules in
+    (omega (arith, count-end is_present c.args.seats c.loop-i.i h), omega arith)

@@ -1,0 +1,7 @@
+use Rattle.state.specs.Subjects.{is_minima}
+use borrow.Author.Rules.{rules}
+use Rattle.state.proofs.subjects.is_minima.Goals as goal
+
+pub returns : goal.returns
+unfolding is_minima
+returns c = rw (c.is_in_range.ensures, c.minima_in-minima.ensures)

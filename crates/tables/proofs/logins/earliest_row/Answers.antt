@@ -1,0 +1,28 @@
+use Prim.Native.Nat.{◌-◌, ◌≤◌, ◌<◌}
+use mathlib.Core.Path.{◌≡◌, refl, sym, ◌∙◌}
+use lib.ListN.{length, drop}
+use Rattle.lists.specs.Fold.{least}
+use Rattle.lists.proofs.Loops.{least-turn, least-end}
+use Rattle.state.specs.Limits.{login_rows}
+use Rattle.state.specs.Rows.{no_login}
+use Rattle.tables.specs.Logins.{is_earlier, earliest_row}
+use borrow.Author.Rules.{rules}
+use Rattle.tables.proofs.logins.earliest_row.Goals as goal
+
+pub loop-i-init : goal.loop-i-init
+unfolding earliest_row
+loop-i-init c = refl
+
+pub loop-i-preserved : goal.loop-i-preserved
+loop-i-preserved c =
+    let b = c.before.before.before in
+    let rows = b.args.rows in
+    let h : b.loop-i.i < length rows = search rules in
+    b.loop-i.invariant ∙ least-turn is_earlier b.loop-i.earliest rows b.loop-i.i no_login h ∙ rw c.earlier-earliest.ensures
+
+pub returns : goal.returns
+returns c =
+    let b = c.before in
+    let rows = b.args.rows in
+    let h : length rows ≤ b.loop-i.i = search rules in
+    sym (b.loop-i.invariant ∙ least-end is_earlier b.loop-i.earliest rows b.loop-i.i h)

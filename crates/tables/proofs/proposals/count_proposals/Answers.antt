@@ -1,0 +1,24 @@
+use Prim.Native.Nat.{◌+◌, ◌-◌, ◌≤◌, ◌<◌}
+use mathlib.Core.Path.{◌≡◌, sym, ◌∙◌}
+use mathlib.Core.Logic.{⊎_elim}
+use native.Mathlib.Omega.{arith}
+use lib.ListN.{length, drop}
+use Rattle.lists.specs.Fold.{count}
+use Rattle.lists.proofs.Loops.{count-pass, count-fail, count-end}
+use Rattle.state.specs.Limits.{proposal_rows}
+use Rattle.state.specs.Rows.{is_proposal}
+use borrow.Author.Rules.{rules}
+use Rattle.tables.proofs.proposals.count_proposals.Goals.{else-is_used, then-is_used}
+use Rattle.tables.proofs.proposals.count_proposals.Goals as goal
+
+pub loop-i-preserved : goal.loop-i-preserved
+loop-i-preserved c =
+    let b = c.before.before.before.before in
+    let h : b.loop-i.i < length b.args.rows = search rules in
+    let e = sym c.is_used.ensures in
+    elim c.if-is_used.branch [ then-is_used w ↦ omega (arith, count-pass is_proposal b.args.rows b.loop-i.i _ h (e ∙ w.if-is_used.true)) | else-is_used w ↦ omega (arith, count-fail is_proposal b.args.rows b.loop-i.i _ h (e ∙ w.if-is_used.false)) ]
+
+pub returns : goal.returns
+returns c =
+    let h : length c.args.rows ≤ c.loop-i.i = search rules in
+    omega (arith, count-end is_proposal c.args.rows c.loop-i.i h)

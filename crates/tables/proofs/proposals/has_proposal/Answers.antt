@@ -1,0 +1,49 @@
+use Prim.Native.Nat.{◌-◌}
+use mathlib.Core.Path.{◌≡◌, refl}
+use mathlib.Core.Bool.{◌||◌}
+use lib.ListN.{drop}
+use Rattle.state.specs.Limits.{proposal_rows}
+use Rattle.lists.specs.Fold.{any}
+use Rattle.lists.proofs.Loops.{seek-inside, seek-turn, seek-end}
+use native.Mathlib.Omega.{arith}
+use Rattle.tables.specs.Proposals.{is_of_cycle, has_proposal}
+use borrow.Author.Rules.{rules}
+use Rattle.tables.proofs.proposals.has_proposal.Goals as goal
+
+pub loop-i-init : goal.loop-i-init
+loop-i-init c = refl
+
+pub offset_bounds-rows-i : goal.offset_bounds-rows-i
+offset_bounds-rows-i c =
+    let l = c.loop-i in omega (arith, seek-inside proposal_rows l.i l.found c.loop-i-test.true)
+
+pub bounds-rows-i : goal.bounds-rows-i
+bounds-rows-i c =
+    let l = c.loop-i in omega (arith, seek-inside proposal_rows l.i l.found c.loop-i-test.true)
+
+pub overflow_add-i : goal.overflow_add-i
+overflow_add-i c =
+    let turn = c.before.before in
+    let l = turn.loop-i in
+    omega (arith, seek-inside proposal_rows l.i l.found turn.loop-i-test.true)
+
+pub loop-i-smaller : goal.loop-i-smaller
+loop-i-smaller c =
+    let turn = c.before.before in
+    let l = turn.loop-i in
+    omega (arith, seek-inside proposal_rows l.i l.found turn.loop-i-test.true)
+
+pub loop-i-preserved : goal.loop-i-preserved
+loop-i-preserved c =
+    let turn = c.before.before in
+    let l = turn.before in
+    let a = l.args in
+    seek-turn (is_of_cycle a.c) a.rows proposal_rows (search rules) l.loop-i.i _ l.loop-i.found _ turn.loop-i-test.true
+    c.is_of_cycle-found.ensures l.loop-i.invariant
+
+pub returns : goal.returns
+unfolding has_proposal
+returns c =
+    let l = c.before in
+    let a = l.args in
+    seek-end (is_of_cycle a.c) a.rows proposal_rows (search rules) l.loop-i.i l.loop-i.found c.loop-i-test.false l.loop-i.invariant

@@ -1,0 +1,5 @@
+use borrow.Author.Rules.{rules}
+use Rattle.tables.proofs.proposals.is_mature.Goals as goal
+
+pub returns : goal.returns
+returns c = rw (c.since.ensures, c.notice_days.ensures)

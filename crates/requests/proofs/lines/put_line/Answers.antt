@@ -8,10 +8,6 @@ use native.Mathlib.Omega.{arith}
 use borrow.Author.Rules.{rules}
 use Rattle.requests.proofs.lines.put_line.Goals as goal
 
--- UNKNOWN NEED slice-aggregate-put-bytes
--- slice-aggregate-put-bytes : tie.Need-slice-aggregate-put-bytes
--- slice-aggregate-put-bytes c = search rules
-
 pub put_bytes-word-requires : goal.put_bytes-word-requires
 put_bytes-word-requires c =
     let a = c.args in
@@ -26,10 +22,6 @@ pub put_decimal-end-requires : goal.put_decimal-end-requires
 put_decimal-end-requires c =
     let a = c.args in
     omega (arith, length-decimal a.ordinal, length-word a.answer)
-
--- UNKNOWN NEED slice-aggregate-put-bytes-2
--- slice-aggregate-put-bytes-2 : tie.Need-slice-aggregate-put-bytes-2
--- slice-aggregate-put-bytes-2 c = search rules
 
 pub put_bytes-requires : goal.put_bytes-requires
 put_bytes-requires c =
@@ -49,5 +41,5 @@ returns c =
     let w₃ = put_next d _ _ _ _ _ _ _ w₂ (omega arith) c.put_answer-number.ensures.value c.put_answer-number.ensures.out_after in
     let w₄ = put_next d _ _ _ _ _ _ _ w₃ (omega arith) c.put_decimal-end.ensures.value c.put_decimal-end.ensures.out_after in
     let w₅ = put_next d _ _ _ _ _ _ _ w₄ (omega arith) c.put_bytes.ensures.value c.put_bytes.ensures.out_after in
-    put_last d _ _ _ _ _ w₅
-    (lefts-rights (decimal a.ordinal) ((32 ∷ []) ∷ word_of a.answer ∷ decimal a.cycle ∷ (10 ∷ []) ∷ []))
+    let w = put_last d _ _ _ _ _ w₅ (lefts-rights (decimal a.ordinal) ((32 ∷ []) ∷ word_of a.answer ∷ decimal a.cycle ∷ (10 ∷ []) ∷ [])) in
+    record { value = w.0; out_after = w.1 }

@@ -6,14 +6,6 @@ use native.Mathlib.Omega.{arith}
 use borrow.Author.Rules.{rules}
 use Rattle.requests.proofs.lines.put_refusal.Goals as goal
 
--- UNKNOWN NEED slice-aggregate-put-bytes
--- slice-aggregate-put-bytes : tie.Need-slice-aggregate-put-bytes
--- slice-aggregate-put-bytes c = search rules
-
--- UNKNOWN NEED slice-aggregate-put-bytes-2
--- slice-aggregate-put-bytes-2 : tie.Need-slice-aggregate-put-bytes-2
--- slice-aggregate-put-bytes-2 c = search rules
-
 pub put_bytes-requires : goal.put_bytes-requires
 put_bytes-requires c =
     let a = c.args in
@@ -27,4 +19,5 @@ returns c =
     let w₁ = put_first d _ _ _ _ c.put_bytes-digits.ensures.value c.put_bytes-digits.ensures.out_after in
     let w₂ = put_next d _ _ _ _ _ _ _ w₁ (omega arith) c.put_decimal-end.ensures.value c.put_decimal-end.ensures.out_after in
     let w₃ = put_next d _ _ _ _ _ _ _ w₂ (omega arith) c.put_bytes.ensures.value c.put_bytes.ensures.out_after in
-    put_last d _ _ _ _ _ w₃ (lefts-rights (110 ∷ 111 ∷ 32 ∷ []) (decimal a.number ∷ (32 ∷ []) ∷ []))
+    let w = put_last d _ _ _ _ _ w₃ (lefts-rights (110 ∷ 111 ∷ 32 ∷ []) (decimal a.number ∷ (32 ∷ []) ∷ [])) in
+    record { value = w.0; out_after = w.1 }

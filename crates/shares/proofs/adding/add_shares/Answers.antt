@@ -1,9 +1,7 @@
 use mathlib.Core.Path.{◌≡◌}
 use mathlib.Core.Bool.{true, false}
-use borrow.Author.Tests.{not-true, not-false}
 use lib.ListN.{length}
 use Rattle.shares.proofs.Outcomes.{two-fit, add_fits, add-28, add-given}
-use borrow.Author.Rules.{rules}
 use Rattle.shares.proofs.adding.add_shares.Goals as goal
 
 pub returns-then-not-count-second : goal.returns-then-not-count-second

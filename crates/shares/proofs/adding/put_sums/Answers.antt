@@ -1,5 +1,5 @@
 use mathlib.Core.Path.{◌≡◌, refl, ap, ◌∙◌}
-use Prim.Native.Nat.{ℕ, ◌-◌, ◌≤◌}
+use Prim.Native.Nat.{ℕ}
 use native.Mathlib.Nat.{zero-add}
 use native.Mathlib.Omega.{arith}
 use lib.ListN.{length, get_or, length-set}
@@ -10,7 +10,6 @@ use Rattle.shares.specs.Polynomial.{sums}
 use Rattle.shares.specs.Shares.{tabulate}
 use Rattle.shares.proofs.Tabulated.{tabulate-none, tabulate-more}
 use Rattle.shares.proofs.Sums.{sums-tabulated}
-use borrow.Author.Rules.{rules}
 use Rattle.shares.proofs.adding.put_sums.Goals as goal
 
 pub loop-i-init : goal.loop-i-init

@@ -1,16 +1,9 @@
-use mathlib.Core.Path.{◌≡◌, refl, ap, ◌∙◌}
-use Prim.Native.Nat.{ℕ, ◌-◌, ◌≤◌}
-use native.Mathlib.Nat.{zero-add}
-use native.Mathlib.Omega.{arith}
-use lib.ListN.{length, get_or, length-set}
+use mathlib.Core.Path.{◌≡◌}
+use Prim.Native.Nat.{◌-◌, ◌≤◌}
+use lib.ListN.{length, get_or}
 use Rattle.binary.specs.Splice.{splice}
-use Rattle.binary.proofs.Splices.{splice-overwrite}
 use Rattle.gf256.specs.Field.{add}
-use Rattle.shares.specs.Polynomial.{sums}
 use Rattle.shares.specs.Shares.{tabulate}
-use Rattle.shares.proofs.Tabulated.{tabulate-none, tabulate-more}
-use Rattle.shares.proofs.Sums.{sums-tabulated}
-use borrow.Author.Rules.{rules}
 use Rattle.shares.proofs.adding.put_sums.Given as goal
 
 abbrev pub invariant-loop-i : goal.invariant-loop-i

@@ -1,14 +1,11 @@
 use mathlib.Core.Path.{◌≡◌, refl, sym, ap, ◌∙◌}
 use mathlib.Core.Bool.{true, false, ◌&&◌, and-false}
-use Prim.Native.Nat.{ℕ, ◌+◌, ◌-◌, ◌≤◌}
+use Prim.Native.Nat.{ℕ, ◌+◌}
 use native.Mathlib.Omega.{arith}
-use borrow.Author.Tests.{not-true, not-false}
 use lib.Dec.{eqb, leb}
-use lib.ListN.{length, drop, get_or}
+use lib.ListN.{drop, get_or}
 use Rattle.lists.specs.Fold.{any}
-use Rattle.shares.specs.Shares.{are_numbers}
 use Rattle.shares.proofs.Turns.{numbers-turn, numbers-end}
-use borrow.Author.Rules.{rules}
 use Rattle.shares.proofs.checks.all_numbers.Goals as goal
 
 pub loop-i-init : goal.loop-i-init

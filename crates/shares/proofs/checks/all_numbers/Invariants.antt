@@ -1,14 +1,7 @@
-use mathlib.Core.Path.{◌≡◌, refl, sym, ap, ◌∙◌}
-use mathlib.Core.Bool.{true, false, ◌&&◌, and-false}
-use Prim.Native.Nat.{ℕ, ◌+◌, ◌-◌, ◌≤◌}
-use native.Mathlib.Omega.{arith}
-use borrow.Author.Tests.{not-true, not-false}
-use lib.Dec.{eqb, leb}
-use lib.ListN.{length, drop, get_or}
-use Rattle.lists.specs.Fold.{any}
+use mathlib.Core.Path.{◌≡◌}
+use Prim.Native.Nat.{◌-◌, ◌≤◌}
+use lib.ListN.{length, drop}
 use Rattle.shares.specs.Shares.{are_numbers}
-use Rattle.shares.proofs.Turns.{numbers-turn, numbers-end}
-use borrow.Author.Rules.{rules}
 use Rattle.shares.proofs.checks.all_numbers.Given as goal
 
 abbrev pub invariant-loop-i : goal.invariant-loop-i

@@ -5,7 +5,6 @@ use native.Mathlib.Omega.{arith}
 use lib.ListN.{take}
 use lib.Seq.{take_all}
 use Rattle.shares.specs.Shares.{are_numbers}
-use borrow.Author.Rules.{rules}
 use Rattle.shares.proofs.checks.are_numbers.Goals as goal
 
 pub returns-then-k-numbers : goal.returns-then-k-numbers

@@ -1,11 +1,9 @@
 use mathlib.Core.Path.{◌≡◌, refl, sym, ◌∙◌}
 use mathlib.Core.Bool.{true, false}
-use Prim.Native.Nat.{◌-◌, ◌≤◌}
 use native.Mathlib.Omega.{arith}
 use borrow.Author.Tests.{eq-eqb, ne_eqb}
 use lib.Dec.{eqb}
-use lib.ListN.{length, drop, get_or}
-use Rattle.lists.specs.Fold.{any}
+use lib.ListN.{get_or}
 use Rattle.lists.proofs.Loops.{any-turn, any-end}
 use borrow.Author.Rules.{rules}
 use Rattle.shares.proofs.checks.is_among.Goals as goal

@@ -1,13 +1,8 @@
-use mathlib.Core.Path.{◌≡◌, refl, sym, ◌∙◌}
-use mathlib.Core.Bool.{true, false}
+use mathlib.Core.Path.{◌≡◌}
 use Prim.Native.Nat.{◌-◌, ◌≤◌}
-use native.Mathlib.Omega.{arith}
-use borrow.Author.Tests.{eq-eqb, ne_eqb}
 use lib.Dec.{eqb}
-use lib.ListN.{length, drop, get_or}
+use lib.ListN.{length, drop}
 use Rattle.lists.specs.Fold.{any}
-use Rattle.lists.proofs.Loops.{any-turn, any-end}
-use borrow.Author.Rules.{rules}
 use Rattle.shares.proofs.checks.is_among.Given as goal
 
 abbrev pub invariant-loop-i : goal.invariant-loop-i

@@ -3,13 +3,11 @@ use mathlib.Core.Bool.{true, false}
 use mathlib.Core.List.{List}
 use Prim.Native.Nat.{ℕ, ◌*◌}
 use native.Mathlib.Omega.{arith}
-use borrow.Author.Tests.{not-true, not-false}
 use lib.ListN.{length, take}
 use Rattle.binary.specs.Number.{overwrite}
 use Rattle.shares.specs.Shares.{key_size, in_range, are_numbers}
 use Rattle.shares.proofs.Outcomes.{three-fit, in-range, merge_fits, merge-26, merge-27, merge-28, merge-given}
 use Rattle.shares.proofs.Writes.{merged-front, length_front}
-use borrow.Author.Rules.{rules}
 use Rattle.shares.proofs.merging.merge_shares.Goals as goal
 
 pub returns-then-not-in_range : goal.returns-then-not-in_range

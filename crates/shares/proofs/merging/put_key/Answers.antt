@@ -7,7 +7,6 @@ use Rattle.binary.specs.Number.{overwrite}
 use Rattle.shares.specs.Code.{weighed_key}
 use Rattle.shares.proofs.Weighing.{weights-length}
 use Rattle.shares.proofs.Writes.{front_fits, front-is, merged-key}
-use borrow.Author.Rules.{rules}
 use Rattle.shares.proofs.merging.put_key.Goals as goal
 
 pub slice_bounds-put_sum-end : goal.slice_bounds-put_sum-end

@@ -1,13 +1,10 @@
-use mathlib.Core.Path.{◌≡◌, refl, sym, ap, ◌∙◌}
-use Prim.Native.Nat.{ℕ, ◌+◌, ◌-◌, ◌≤◌}
+use mathlib.Core.Path.{refl, sym, ap, ◌∙◌}
+use Prim.Native.Nat.{ℕ, ◌+◌}
 use native.Mathlib.Nat.{zero-add}
 use native.Mathlib.Omega.{arith}
-use lib.ListN.{length, get_or}
-use Rattle.binary.specs.Splice.{splice}
-use Rattle.shares.specs.Shares.{key_size, tabulate}
+use lib.ListN.{get_or}
 use Rattle.shares.proofs.Turns.{sum_up_to, sum-none}
 use Rattle.shares.proofs.Steps.{row_step, row-start, row-end, added, all-added}
-use borrow.Author.Rules.{rules}
 use Rattle.shares.proofs.merging.put_sum.Goals as goal
 
 pub loop-j-init : goal.loop-j-init

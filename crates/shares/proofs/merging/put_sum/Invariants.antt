@@ -1,13 +1,9 @@
-use mathlib.Core.Path.{◌≡◌, refl, sym, ap, ◌∙◌}
-use Prim.Native.Nat.{ℕ, ◌+◌, ◌-◌, ◌≤◌}
-use native.Mathlib.Nat.{zero-add}
-use native.Mathlib.Omega.{arith}
-use lib.ListN.{length, get_or}
+use mathlib.Core.Path.{◌≡◌}
+use Prim.Native.Nat.{◌-◌, ◌≤◌}
+use lib.ListN.{length}
 use Rattle.binary.specs.Splice.{splice}
 use Rattle.shares.specs.Shares.{key_size, tabulate}
-use Rattle.shares.proofs.Turns.{sum_up_to, sum-none}
-use Rattle.shares.proofs.Steps.{row_step, row-start, row-end, added, all-added}
-use borrow.Author.Rules.{rules}
+use Rattle.shares.proofs.Turns.{sum_up_to}
 use Rattle.shares.proofs.merging.put_sum.Given as goal
 
 abbrev pub invariant-loop-j : goal.invariant-loop-j

@@ -3,8 +3,7 @@ use Prim.Native.Nat.{ℕ}
 use native.Mathlib.Omega.{arith}
 use lib.ListN.{drop}
 use Rattle.shares.specs.Code.{weights}
-use Rattle.shares.proofs.Turns.{Weights, weights-none, weights-turn}
-use borrow.Author.Rules.{rules}
+use Rattle.shares.proofs.Turns.{weights-none, weights-turn}
 use Rattle.shares.proofs.merging.put_weights.Goals as goal
 
 pub loop-i-init : goal.loop-i-init

@@ -1,10 +1,10 @@
 use mathlib.Core.Path.{◌≡◌, ap, ◌∙◌}
-use Prim.Native.Nat.{ℕ, ◌-◌, ◌≤◌}
+use Prim.Native.Nat.{ℕ, ◌-◌}
 use native.Mathlib.Omega.{arith}
 use lib.ListN.{drop, get_or}
 use Rattle.gf256.specs.Field.{mul, divide}
 use Rattle.shares.specs.Code.{weighed, total}
-use Rattle.shares.proofs.Turns.{Weighed, weighed_from, weigh-none, weigh-turn}
+use Rattle.shares.proofs.Turns.{weighed_from, weigh-none, weigh-turn}
 use borrow.Author.Rules.{rules}
 use Rattle.shares.proofs.merging.weigh.Goals as goal
 

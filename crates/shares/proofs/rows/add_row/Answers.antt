@@ -1,13 +1,12 @@
 use mathlib.Core.Path.{◌≡◌, refl, ap, ap₂, ◌∙◌}
-use Prim.Native.Nat.{ℕ, ◌+◌, ◌-◌, ◌≤◌}
+use Prim.Native.Nat.{ℕ, ◌+◌}
 use native.Mathlib.Nat.{zero-add}
 use native.Mathlib.Omega.{arith}
-use lib.ListN.{length, get_or, length-set}
+use lib.ListN.{get_or, length-set}
 use Rattle.binary.specs.Splice.{splice}
 use Rattle.gf256.specs.Field.{add, mul}
 use Rattle.shares.specs.Shares.{key_size, tabulate}
 use Rattle.shares.proofs.Tabulated.{tabulate-none, tabulate-more, rest-byte}
-use borrow.Author.Rules.{rules}
 use Rattle.shares.proofs.rows.add_row.Goals as goal
 
 pub loop-b-init : goal.loop-b-init

@@ -1,11 +1,10 @@
 use mathlib.Core.Path.{◌≡◌, refl, ap, ◌∙◌}
-use Prim.Native.Nat.{ℕ, ◌+◌, ◌-◌, ◌≤◌}
+use Prim.Native.Nat.{ℕ, ◌+◌}
 use native.Mathlib.Omega.{arith}
-use lib.ListN.{length, length-set}
+use lib.ListN.{length-set}
 use Rattle.binary.specs.Splice.{splice}
 use Rattle.shares.specs.Shares.{key_size, tabulate}
 use Rattle.shares.proofs.Tabulated.{tabulate-none, tabulate-more}
-use borrow.Author.Rules.{rules}
 use Rattle.shares.proofs.rows.clear_row.Goals as goal
 
 pub loop-b-init : goal.loop-b-init

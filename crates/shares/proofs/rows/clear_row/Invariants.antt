@@ -1,11 +1,8 @@
-use mathlib.Core.Path.{◌≡◌, refl, ap, ◌∙◌}
-use Prim.Native.Nat.{ℕ, ◌+◌, ◌-◌, ◌≤◌}
-use native.Mathlib.Omega.{arith}
-use lib.ListN.{length, length-set}
+use mathlib.Core.Path.{◌≡◌}
+use Prim.Native.Nat.{◌-◌, ◌≤◌}
+use lib.ListN.{length}
 use Rattle.binary.specs.Splice.{splice}
 use Rattle.shares.specs.Shares.{key_size, tabulate}
-use Rattle.shares.proofs.Tabulated.{tabulate-none, tabulate-more}
-use borrow.Author.Rules.{rules}
 use Rattle.shares.proofs.rows.clear_row.Given as goal
 
 abbrev pub invariant-loop-b : goal.invariant-loop-b

@@ -1,13 +1,12 @@
 use mathlib.Core.Path.{◌≡◌, refl, ap, ◌∙◌}
-use Prim.Native.Nat.{ℕ, ◌+◌, ◌*◌, ◌-◌, ◌≤◌, ◌<◌}
+use Prim.Native.Nat.{ℕ, ◌+◌, ◌*◌, ◌≤◌, ◌<◌}
 use native.Mathlib.Nat.{mul-le-mul_left}
 use native.Mathlib.Omega.{arith}
-use lib.ListN.{length, get_or, length-set}
+use lib.ListN.{get_or, length-set}
 use Rattle.binary.specs.Splice.{splice}
 use Rattle.gf256.specs.Field.{add, mul}
 use Rattle.shares.specs.Shares.{key_size, tabulate}
 use Rattle.shares.proofs.Tabulated.{tabulate-none, tabulate-more, rest-byte}
-use borrow.Author.Rules.{rules}
 use Rattle.shares.proofs.rows.step_row.Goals as goal
 
 in-stride : (s b : ℕ) → b < key_size → s * b ≤ s * 31

@@ -1,13 +1,11 @@
 use mathlib.Core.Path.{◌≡◌, refl, ap, ◌∙◌}
-use Prim.Native.Nat.{ℕ, ◌-◌, ◌≤◌}
+use Prim.Native.Nat.{ℕ, ◌-◌}
 use native.Mathlib.Omega.{arith}
-use lib.ListN.{length}
 use Rattle.binary.specs.Splice.{splice}
 use Rattle.shares.specs.Polynomial.{eval}
 use Rattle.shares.specs.Shares.{key_size, tabulate, polynomial_of, share_of}
 use Rattle.shares.proofs.Turns.{in-part}
 use Rattle.shares.proofs.Steps.{row_step, row-start, row-end, value_from, value_none, value-turn, value-end}
-use borrow.Author.Rules.{rules}
 use Rattle.shares.proofs.splitting.put_share.Goals as goal
 
 pub loop-i-init : goal.loop-i-init

@@ -1,13 +1,9 @@
-use mathlib.Core.Path.{◌≡◌, refl, ap, ◌∙◌}
-use Prim.Native.Nat.{ℕ, ◌-◌, ◌≤◌}
-use native.Mathlib.Omega.{arith}
+use mathlib.Core.Path.{◌≡◌}
+use Prim.Native.Nat.{◌-◌, ◌≤◌}
 use lib.ListN.{length}
 use Rattle.binary.specs.Splice.{splice}
-use Rattle.shares.specs.Polynomial.{eval}
-use Rattle.shares.specs.Shares.{key_size, tabulate, polynomial_of, share_of}
-use Rattle.shares.proofs.Turns.{in-part}
-use Rattle.shares.proofs.Steps.{row_step, row-start, row-end, value_from, value_none, value-turn, value-end}
-use borrow.Author.Rules.{rules}
+use Rattle.shares.specs.Shares.{key_size, tabulate}
+use Rattle.shares.proofs.Steps.{value_from}
 use Rattle.shares.proofs.splitting.put_share.Given as goal
 
 abbrev pub invariant-loop-i : goal.invariant-loop-i

@@ -1,11 +1,9 @@
 use mathlib.Core.Path.{◌≡◌, refl, ap, ◌∙◌}
-use Prim.Native.Nat.{ℕ, ◌-◌, ◌≤◌}
+use Prim.Native.Nat.{ℕ}
 use native.Mathlib.Omega.{arith}
-use lib.ListN.{length}
 use Rattle.binary.specs.Number.{overwrite}
 use Rattle.shares.specs.Shares.{shares_of}
 use Rattle.shares.proofs.Writes.{shares-none, shares-more}
-use borrow.Author.Rules.{rules}
 use Rattle.shares.proofs.splitting.put_shares.Goals as goal
 
 pub loop-i-init : goal.loop-i-init

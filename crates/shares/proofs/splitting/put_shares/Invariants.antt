@@ -1,11 +1,8 @@
-use mathlib.Core.Path.{◌≡◌, refl, ap, ◌∙◌}
-use Prim.Native.Nat.{ℕ, ◌-◌, ◌≤◌}
-use native.Mathlib.Omega.{arith}
+use mathlib.Core.Path.{◌≡◌}
+use Prim.Native.Nat.{◌-◌, ◌≤◌}
 use lib.ListN.{length}
 use Rattle.binary.specs.Number.{overwrite}
 use Rattle.shares.specs.Shares.{shares_of}
-use Rattle.shares.proofs.Writes.{shares-none, shares-more}
-use borrow.Author.Rules.{rules}
 use Rattle.shares.proofs.splitting.put_shares.Given as goal
 
 abbrev pub invariant-loop-i : goal.invariant-loop-i

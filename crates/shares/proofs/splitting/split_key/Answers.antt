@@ -2,11 +2,9 @@ use mathlib.Core.Path.{◌≡◌, sym, ◌∙◌}
 use mathlib.Core.Bool.{true, false}
 use Prim.Native.Nat.{◌*◌, ◌-◌}
 use native.Mathlib.Omega.{arith}
-use borrow.Author.Tests.{not-true, not-false}
 use lib.ListN.{length}
 use Rattle.shares.specs.Shares.{key_size, in_range}
 use Rattle.shares.proofs.Outcomes.{three-fit, in-range, split_fits, split-26, split-28, split-given}
-use borrow.Author.Rules.{rules}
 use Rattle.shares.proofs.splitting.split_key.Goals as goal
 
 pub returns-then-not-in_range : goal.returns-then-not-in_range

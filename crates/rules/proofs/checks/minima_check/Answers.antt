@@ -1,0 +1,13 @@
+use Rattle.rules.specs.Rules.{check_refusal}
+use Rattle.rules.proofs.CaseKinds.{other-case}
+use borrow.Author.Rules.{rules}
+use Rattle.rules.proofs.checks.minima_check.Goals as goal
+
+pub returns-in_default : goal.returns-in_default
+returns-in_default c d = absurd (other-case c.args.action 4 c.requires.0 (tt {0}) c.in_default.is)
+
+pub returns : goal.returns
+unfolding check_refusal
+returns c d =
+    let case = c.before.before in
+    rw (case.in-Minima.is, ← case.requires.1.0) c.quorum_refusal.ensures

@@ -6,7 +6,7 @@ use borrow.Author.Rules.{rules}
 use Rattle.rules.proofs.eviction_of.Goals as goal
 
 pub returns-in_default : goal.returns-in_default
-returns-in_default c y e = absurd (other-case c.args.action 7 (ap kind_of e) (tt {0}) c.in_default.is)
+returns-in_default c y e = absurd (other-case c.args.action 7 (ap kind_of e) (tt {0}) c.in_default.in_default-own.keys2)
 
 pub returns : goal.returns
 returns c y e =

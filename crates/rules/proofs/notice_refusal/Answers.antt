@@ -5,5 +5,4 @@ use Rattle.rules.proofs.notice_refusal.Goals as goal
 pub returns : goal.returns
 unfolding notice_refusal
 returns c s d found =
-    let used = c.before in
-    rw (← found, ← used.subject-subject.ensures, ← used.is_used.ensures) c.refuse_if.ensures
+    rw (← found, ← c.subject-subject.ensures, ← c.is_used.ensures) c.refuse_if.ensures

@@ -5,12 +5,10 @@ use borrow.Author.Rules.{rules}
 use Rattle.rules.proofs.checks.certify_check.Goals as goal
 
 pub returns-in_default : goal.returns-in_default
-returns-in_default c d = absurd (other-case c.args.action 3 c.requires.0 (tt {0}) c.in_default.is)
+returns-in_default c d = absurd (other-case c.args.action 3 c.requires.0 (tt {0}) c.in_default.in_default-own.keys2)
 
 pub returns : goal.returns
 unfolding check_refusal
 returns c d =
-    let case = c.before.before.before.before in
-    let start = case.before.before in
-    let f = of-case start.args.s start.args.found case.in-Certify.is start.requires.1 in
-    rw (case.in-Certify.is, ← f.1.1) c.refuse_if.ensures
+    let f = of-case c.args.s c.args.found c.in-Certify.is c.requires.1 in
+    rw (c.in-Certify.is, ← f.1.1) c.refuse_if.ensures

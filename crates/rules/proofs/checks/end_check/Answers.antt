@@ -4,10 +4,9 @@ use borrow.Author.Rules.{rules}
 use Rattle.rules.proofs.checks.end_check.Goals as goal
 
 pub returns-in_default : goal.returns-in_default
-returns-in_default c d = absurd (other-case c.args.action 8 c.requires (tt {0}) c.in_default.is)
+returns-in_default c d = absurd (other-case c.args.action 8 c.requires (tt {0}) c.in_default.in_default-own.keys2)
 
 pub returns : goal.returns
 unfolding check_refusal
 returns c d =
-    let case = c.before.before.before.before in
-    rw (case.in-End.is, ← c.is_listed.ensures) c.refuse_if.ensures
+    rw (c.in-End.is, ← c.is_listed.ensures) c.refuse_if.ensures

@@ -5,16 +5,12 @@ use borrow.Author.Rules.{rules}
 use Rattle.rules.proofs.checks.grant_check.Goals as goal
 
 pub returns-in_default : goal.returns-in_default
-returns-in_default c s known = absurd (other-case c.args.action 7 c.requires (tt {0}) c.in_default.is)
+returns-in_default c s known = absurd (other-case c.args.action 7 c.requires (tt {0}) c.in_default.in_default-own.keys2)
 
 pub returns : goal.returns
 unfolding check_refusal
 returns c s known =
-    let over = c.before.before in
-    let full = over.before in
-    let ended = full.before.before in
-    let case = ended.before.before.before.before.before in
-    let a = case.args in
-    let lacks = eviction-lacks a.d _ s.logins a.found.eviction (known _ case.in-Grant.is) in
-    rw (case.in-Grant.is, ← lacks, ← ended.is_ended.ensures, ← full.refuse_if-full.ensures, ← over.is_before.ensures, ← c.refuse_if.ensures)
+    let a = c.args in
+    let lacks = eviction-lacks a.d _ s.logins a.found.eviction (known _ c.in-Grant.is) in
+    rw (c.in-Grant.is, ← lacks, ← c.is_ended.ensures, ← c.refuse_if-full.ensures, ← c.is_before.ensures, ← c.refuse_if.ensures)
     c.or_else.ensures

@@ -4,10 +4,9 @@ use borrow.Author.Rules.{rules}
 use Rattle.rules.proofs.checks.minima_check.Goals as goal
 
 pub returns-in_default : goal.returns-in_default
-returns-in_default c d = absurd (other-case c.args.action 4 c.requires.0 (tt {0}) c.in_default.is)
+returns-in_default c d = absurd (other-case c.args.action 4 c.requires.0 (tt {0}) c.in_default.in_default-own.keys2)
 
 pub returns : goal.returns
 unfolding check_refusal
 returns c d =
-    let case = c.before.before in
-    rw (case.in-Minima.is, ← case.requires.1.0) c.quorum_refusal.ensures
+    rw (c.in-Minima.is, ← c.requires.1.0) c.quorum_refusal.ensures

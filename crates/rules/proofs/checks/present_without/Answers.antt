@@ -6,16 +6,14 @@ use Rattle.rules.proofs.checks.present_without.Goals as goal
 
 pub returns-then-not-is_present : goal.returns-then-not-is_present
 unfolding present_without
-returns-then-not-is_present c = rw (← c.is_present.ensures, not-true c.is_present.result c.if-not-is_present.true) (omega arith)
+returns-then-not-is_present c = rw (← c.is_present.ensures, c.if-not-is_present.true) (omega arith)
 
 pub returns-then-p-eq0 : goal.returns-then-p-eq0
 unfolding present_without
 returns-then-p-eq0 c =
-    let test = c.before.before in
-    rw (← test.is_present.ensures, not-false test.is_present.result c.if-not-is_present.false) (omega arith)
+    rw (← c.is_present.ensures, c.if-not-is_present.false) (omega arith)
 
 pub returns-else-p-eq0 : goal.returns-else-p-eq0
 unfolding present_without
 returns-else-p-eq0 c =
-    let test = c.before.before in
-    rw (← test.is_present.ensures, not-false test.is_present.result c.if-not-is_present.false)
+    rw (← c.is_present.ensures, c.if-not-is_present.false)

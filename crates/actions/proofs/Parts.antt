@@ -3,7 +3,7 @@ use Prim.Native.Nat.{ℕ, ◌≤◌}
 use mathlib.Core.Path.{◌≡◌, refl, sym, ap, ◌∙◌}
 use mathlib.Core.List.{List}
 use native.Mathlib.Omega.{arith}
-use types.Run.{OneOf}
+use borrow.Enum.Refused.{Among}
 use denote.Enum.Declared.{tag_of}
 use lib.ListN.{length, set}
 use lib.Seq.{set_out}
@@ -65,7 +65,7 @@ module _ (s : State) (d : Day) where
     at-end login o rows e h = rw (h, e, unnamed)
 
     -- the other actions
-    at-proposals : (x : Action) → OneOf (others 7 cases) (tag_of the_type x) → OneOf (others 8 cases) (tag_of the_type x) → finished x ≡ left x
+    at-proposals : (x : Action) → ((r : Login) → x ≡ case.Grant r → ⊥) → ((l : ℕ) → x ≡ case.End l → ⊥) → finished x ≡ left x
     unfolding act use_proposal effect with_standing with_life
     at-proposals (case.Propose x) g e = rw unnamed
     at-proposals (case.Cancel x) g e = rw unnamed
@@ -74,11 +74,11 @@ module _ (s : State) (d : Day) where
     at-proposals (case.Minima x) g e = rw unnamed
     at-proposals (case.Remove i) g e = refl
     at-proposals (case.Rejoin i life) g e = refl
-    at-proposals (case.Grant x) g e = absurd (other-case (case.Grant x) 7 refl (tt {0}) g)
-    at-proposals (case.End login) g e = absurd (other-case (case.End login) 8 refl (tt {0}) e)
+    at-proposals (case.Grant x) g e = absurd (g x refl)
+    at-proposals (case.End login) g e = absurd (e login refl)
 
-    pub elsewhere : (x : Action) (f : Found) (o : State) (rows : List Proposal) → OneOf (others 7 cases) (tag_of the_type x)
-        → OneOf (others 8 cases) (tag_of the_type x) → FindsNotice s d x f → o ≡ begun x
+    pub elsewhere : (x : Action) (f : Found) (o : State) (rows : List Proposal) → ((r : Login) → x ≡ case.Grant r → ⊥)
+        → ((l : ℕ) → x ≡ case.End l → ⊥) → FindsNotice s d x f → o ≡ begun x
         → rows ≡ proposals_after o.proposals f.notice.cycle s.cycle d x → with_proposals rows o ≡ left x
     elsewhere x f o rows g e found b h =
         let q = h ∙ ap (λ (n : Proposal). proposals_after o.proposals n.cycle s.cycle d x) found in

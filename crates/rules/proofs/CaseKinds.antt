@@ -6,8 +6,9 @@ use mathlib.Core.Bool.{cond, not}
 use mathlib.Core.List.{List, [], ◌∷◌}
 use lib.Dec.{T, eqb}
 use mir.Val.{has_key}
-use types.Run.{OneOf, miss}
+use types.Run.{miss}
 use denote.Enum.Declared.{tag_of}
+use borrow.Enum.Refused.{Among, opened}
 use Rattle.records.specs.contracts.Action.{the_type}
 use Rattle.records.specs.declared.Action.{Action}
 use Rattle.records.specs.declared.Action.TheVariants.{Propose, Cancel, Presents, Certify, Minima, Remove, Rejoin, Grant, End}
@@ -34,8 +35,9 @@ abbrev pub cases : List ℕ
 cases = 0 ∷ 1 ∷ 2 ∷ 3 ∷ 4 ∷ 5 ∷ 6 ∷ 7 ∷ 8 ∷ []
 
 -- An action of this kind is of no other case.
-pub other-case : (x : Action) (tag : ℕ) → kind_of x ≡ suc tag → T (not (has_key (others tag cases) tag)) → OneOf (others tag cases) (tag_of the_type x)
+pub other-case : (x : Action) (tag : ℕ) → kind_of x ≡ suc tag → T (not (has_key (others tag cases) tag)) → Among (others tag cases) (tag_of the_type x)
     → ⊥
 other-case x tag e h o =
     let t : tag_of the_type x ≡ tag = omega (arith, case-kind x) in
-    miss (others tag cases) tag h (rw t at o)
+    let key = opened {ks = others tag cases} {x = tag_of the_type x} o in
+    miss (others tag cases) tag h (rw t at key)

@@ -96,8 +96,9 @@ count-without : {lo : ℕ} {rows : List Login} {r : Login} → RisingLogins lo r
 unfolding keep count
 count-without (unused h) m u = absurd (true≢false (sym u ∙ all_in h m))
 count-without {r = r} (row {r = q} {rs = qs} v l h) (Memᴰ.head s) u =
-    let all-kept = keep_all (λ y. not (is_named q.login y)) qs (λ y m. ap not (unnamed h (is-used q v) m)) in
-    rw (s, eq-eqb q.login q.login refl, all-kept, v) (omega arith)
+    let same : r.login ≡ q.login = ap (λ (w : Login). w.login) s in
+    let all-kept = keep_all (λ y. not (is_named r.login y)) qs (λ y m. let off : is_named r.login y ≡ false = rw same (unnamed h (is-used q v) m) in ap not off) in
+    rw (eq-eqb q.login r.login (sym same), all-kept, v) (omega arith)
 count-without {r = r} (row {r = q} {rs = qs} v l h) (Memᴰ.tail m) u =
     let above = rising-above h m u in
     rw (ne_eqb q.login r.login (λ (e : q.login ≡ r.login). omega arith), v) (omega (arith, count-without h m u))

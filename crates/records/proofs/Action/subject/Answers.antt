@@ -2,28 +2,28 @@ use borrow.Author.Rules.{rules}
 use Rattle.records.proofs.Action.subject.Goals as goal
 
 pub returns-in-Propose : goal.returns-in-Propose
-returns-in-Propose c = rw c.self.given.1
+returns-in-Propose c = rw c.in-Propose.is
 
 pub returns-in-Cancel : goal.returns-in-Cancel
-returns-in-Cancel c = rw c.self-in-Cancel-1.given.1
+returns-in-Cancel c = rw c.in-Cancel.is
 
 pub returns-in-Presents : goal.returns-in-Presents
-returns-in-Presents c = rw c.self-in-Presents-1.given.1
+returns-in-Presents c = rw c.in-Presents.is
 
 pub returns-in-Certify : goal.returns-in-Certify
-returns-in-Certify c = rw c.self-in-Certify-1.given.1 c.certifies.ensures
+returns-in-Certify c = rw c.in-Certify.is c.certifies.ensures
 
 pub returns-in-Minima : goal.returns-in-Minima
-returns-in-Minima c = rw c.self-in-Minima-1.given.1 c.sets_minima.ensures
+returns-in-Minima c = rw c.in-Minima.is c.sets_minima.ensures
 
 pub returns-in-Remove : goal.returns-in-Remove
-returns-in-Remove c = rw c.self-in-Remove-1.given.1 c.removes.ensures
+returns-in-Remove c = rw c.in-Remove.is c.removes.ensures
 
 pub returns-in-Rejoin : goal.returns-in-Rejoin
-returns-in-Rejoin c = rw c.self-in-Rejoin-1.given.1 c.rejoins.ensures
+returns-in-Rejoin c = rw c.in-Rejoin.is c.rejoins.ensures
 
 pub returns-in-Grant : goal.returns-in-Grant
-returns-in-Grant c = rw c.self-in-Grant-1.given.1
+returns-in-Grant c = rw c.in-Grant.is
 
 pub returns-in-End : goal.returns-in-End
-returns-in-End c = rw c.self-in-End-1.given.1
+returns-in-End c = rw c.in-End.is

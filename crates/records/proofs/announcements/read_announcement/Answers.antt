@@ -23,14 +23,14 @@ long : (c : Then-is_framed) → length (bytes c) ≡ announcement_size
 long c = framed-length announcement_length (bytes c) (framed c)
 
 pub u16_at-requires : goal.u16_at-requires
-u16_at-requires c = omega (arith, long c)
+u16_at-requires c = omega (arith, long (goal.at.u16_at-requires c).Then-is_framed)
 
 pub read_kind-requires : goal.read_kind-requires
-read_kind-requires c = omega (arith, long c.before)
+read_kind-requires c = omega (arith, long (goal.at.read_kind-requires c).Then-is_framed)
 
 pub returns-then-is_framed : goal.returns-then-is_framed
 unfolding read_announcement
-returns-then-is_framed c = rw (framed c.before.before, c.read_kind.ensures, c.u16_at.ensures)
+returns-then-is_framed c = rw (framed (goal.at.returns-then-is_framed c).Then-is_framed, c.read_kind.ensures, c.u16_at.ensures)
 
 pub returns-else-is_framed : goal.returns-else-is_framed
 unfolding read_announcement

@@ -6,7 +6,7 @@ use Rattle.records.proofs.sheets.seen_seats.Goals.{After-size-k}
 use Rattle.records.proofs.sheets.seen_seats.Goals as goal
 
 -- the seat of the row
-below : (c : After-size-k invariant-loop decreases-loop) → c.size-k.result < 32
+below : (c : After-size-k) → c.size-k.result < 32
 below c =
     let l = c.before.before.before in
     omega (arith, c.size-k.ensures, l.loop-i.invariant.sheet.seat l.loop-i.i (omega arith))
@@ -20,16 +20,16 @@ loop-i-init c =
     seen_start s.args.b.now s.args.seats c.size-n.result s.requires c.size-n.ensures
 
 pub offset_bounds-seats-k : goal.offset_bounds-seats-k
-offset_bounds-seats-k c = omega (arith, below c.before)
+offset_bounds-seats-k c = omega (arith, below (goal.at.offset_bounds-seats-k c).After-size-k)
 
 pub bounds-seats-k : goal.bounds-seats-k
-bounds-seats-k c = below c.before
+bounds-seats-k c = below (goal.at.bounds-seats-k c).After-size-k
 
 pub overflow_cast-seen : goal.overflow_cast-seen
-overflow_cast-seen c = omega (arith, below c.before.before.before.before.before)
+overflow_cast-seen c = omega (arith, below (goal.at.overflow_cast-seen c).After-size-k)
 
 pub overflow_shl-seen : goal.overflow_shl-seen
-overflow_shl-seen c = below c.before.before.before.before.before
+overflow_shl-seen c = below (goal.at.overflow_shl-seen c).After-size-k
 
 pub loop-i-preserved : goal.loop-i-preserved
 loop-i-preserved c =

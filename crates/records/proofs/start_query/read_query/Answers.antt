@@ -36,43 +36,41 @@ long : (c : Else-not-is_record-named) → query_length + 2 ≤ length (bytes c)
 long c = either-long (bytes c) (framed c)
 
 -- the door that is named, or door 0
-door : (c : Joined-named) → let b = bytes c.before.before in c.if-named.door ≡ cond (is_named b) (byte_at 13 b) 0
+door : (c : Joined-named) → let b = c.args.b.now in c.if-named.door ≡ cond (is_named b) (byte_at 13 b) 0
 door c =
     let named = sym c.is_record-named.ensures in
-    let b = bytes c.before.before in
+    let b = c.args.b.now in
     let at : Bool → ℕ = λ k. cond k (byte_at 13 b) 0 in
-    elim c.if-named.branch [ then-named w ↦ w.VAR0-is ∙ sym (ap at (named ∙ w.if-named.true)) | else-named w ↦ w.VAR0-is ∙ sym (ap at (named ∙ w.if-named.false)) ]
+    elim c.if-named.branch [ then-named w ↦ w.door-is ∙ sym (ap at (named ∙ w.if-named.true)) | else-named w ↦ w.door-is ∙ sym (ap at (named ∙ w.if-named.false)) ]
 
 pub returns-then-not-is_record-named : goal.returns-then-not-is_record-named
 unfolding read_query
 returns-then-not-is_record-named c =
-    let named = c.is_record-named.result in
-    let none = not-true (c.is_record.result || named) c.if-not-is_record-named.true in
-    rw (← c.is_record.ensures, ← c.is_record-named.ensures, none)
+    rw (← c.is_record.ensures, ← c.is_record-named.ensures, c.if-not-is_record-named.true)
 
 pub bounds-b-12 : goal.bounds-b-12
-bounds-b-12 c = omega (arith, long c.before)
+bounds-b-12 c = omega (arith, long (goal.at.bounds-b-12 c).Else-not-is_record-named)
 
 pub bounds-b-13 : goal.bounds-b-13
 bounds-b-13 c =
     let named = c.before in
     let one = named.before.before in
-    let r = record-length door_query_length kind_door_query (bytes one) (sym one.is_record-named.ensures ∙ named.if-named.true) in
+    let r = record-length door_query_length kind_door_query (bytes (goal.at.bounds-b-13 c).Else-not-is_record-named) (sym one.is_record-named.ensures ∙ named.if-named.true) in
     omega arith
 
 pub u32_at-requires : goal.u32_at-requires
-u32_at-requires c = omega (arith, long c.before.before.before)
+u32_at-requires c = omega (arith, long (goal.at.u32_at-requires c).Else-not-is_record-named)
 
 pub u32_at-requires-then-right-door : goal.u32_at-requires-then-right-door
-u32_at-requires-then-right-door c = omega (arith, long c.before.before.before.before)
+u32_at-requires-then-right-door c = omega (arith, long (goal.at.u32_at-requires-then-right-door c).Else-not-is_record-named)
 
 pub returns-then-right-door : goal.returns-then-right-door
 unfolding read_query
 returns-then-right-door c =
     let join = c.before.before.before in
     rw (
-      framed join.before.before,
-      ← door join,
+      framed (goal.at.returns-then-right-door c).Else-not-is_record-named,
+      ← door (goal.at.returns-then-right-door c).Joined-named,
       c.if-right-door.true,
       c.u32_at.ensures,
       c.u32_at-then-right-door.ensures,
@@ -82,4 +80,4 @@ pub returns-else-right-door : goal.returns-else-right-door
 unfolding read_query
 returns-else-right-door c =
     let join = c.before in
-    rw (framed join.before.before, ← door join, c.if-right-door.false)
+    rw (framed (goal.at.returns-else-right-door c).Else-not-is_record-named, ← door (goal.at.returns-else-right-door c).Joined-named, c.if-right-door.false)

@@ -28,15 +28,15 @@ unfolding read_start
 returns-then-not-is_record c = rw (sym c.is_record.ensures ∙ c.if-not-is_record.true)
 
 pub bounds-b-4 : goal.bounds-b-4
-bounds-b-4 c = omega (arith, long c.before)
+bounds-b-4 c = omega (arith, long (goal.at.bounds-b-4 c).Else-not-is_record)
 
 pub u32_at-requires : goal.u32_at-requires
-u32_at-requires c = omega (arith, long c.before.before)
+u32_at-requires c = omega (arith, long (goal.at.u32_at-requires c).Else-not-is_record)
 
 pub returns-then-seat-lt-SEAT_NUMBERS : goal.returns-then-seat-lt-SEAT_NUMBERS
 unfolding read_start
-returns-then-seat-lt-SEAT_NUMBERS c = rw (framed c.before.before.before, lt-ltb _ _ c.if-seat-lt-SEAT_NUMBERS.true, c.u32_at.ensures)
+returns-then-seat-lt-SEAT_NUMBERS c = rw (framed (goal.at.returns-then-seat-lt-SEAT_NUMBERS c).Else-not-is_record, lt-ltb _ _ c.if-seat-lt-SEAT_NUMBERS.true, c.u32_at.ensures)
 
 pub returns-else-seat-lt-SEAT_NUMBERS : goal.returns-else-seat-lt-SEAT_NUMBERS
 unfolding read_start
-returns-else-seat-lt-SEAT_NUMBERS c = rw (framed c.before.before, le-ltb _ _ c.if-seat-lt-SEAT_NUMBERS.false)
+returns-else-seat-lt-SEAT_NUMBERS c = rw (framed (goal.at.returns-else-seat-lt-SEAT_NUMBERS c).Else-not-is_record, le-ltb _ _ c.if-seat-lt-SEAT_NUMBERS.false)

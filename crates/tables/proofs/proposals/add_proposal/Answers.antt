@@ -21,7 +21,7 @@ returns-then-not-is_used c =
     let v = b.loop-i.invariant in
     let h : b.loop-i.i < length a.rows = omega arith in
     rw v.1.0 (replace-pass _ a.x a.rows b.loop-i.i no_proposal h v.1.1
-    (rw v.1.0 at (ap not (sym c.is_used.ensures) ∙ c.if-not-is_used.true)))
+    (rw v.1.0 at (ap not (sym c.is_used.ensures ∙ c.if-not-is_used.true))))
 
 pub loop-i-preserved : goal.loop-i-preserved
 loop-i-preserved c =
@@ -33,7 +33,7 @@ loop-i-preserved c =
       (
         v.1.0,
         replace-fail _ a.x a.rows b.loop-i.i no_proposal h v.1.1
-            (rw v.1.0 at (ap not (sym c.is_used.ensures) ∙ c.if-not-is_used.false)),
+            (rw v.1.0 at (ap not (sym c.is_used.ensures ∙ c.if-not-is_used.false))),
       ),
     )
 

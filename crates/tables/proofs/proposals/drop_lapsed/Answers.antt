@@ -24,9 +24,9 @@ loop-i-preserved c =
       omega arith,
       elim c.if-not-is_lapsed.branch [ then-not-is_lapsed w ↦ rw (w.out-is, w.j-is)
           (keep-pass _ proposal_rows no_proposal a.rows b.loop-i.i _ h m _ _ b.loop-i.invariant.1
-          (ap not (sym c.is_lapsed.ensures) ∙ w.if-not-is_lapsed.true)) | else-not-is_lapsed w ↦ rw (w.VAR0-is, w.VAR1-is)
+          (ap not (sym c.is_lapsed.ensures ∙ w.if-not-is_lapsed.true))) | else-not-is_lapsed w ↦ rw (w.out-is, w.j-is)
           (keep-fail _ proposal_rows no_proposal a.rows b.loop-i.i _ h m _ _ b.loop-i.invariant.1
-          (ap not (sym c.is_lapsed.ensures) ∙ w.if-not-is_lapsed.false)) ],
+          (ap not (sym c.is_lapsed.ensures ∙ w.if-not-is_lapsed.false))) ],
     )
 
 pub returns : goal.returns

@@ -1,0 +1,36 @@
+use Prim.Native.Nat.{◌-◌}
+use mathlib.Core.Path.{◌≡◌, refl, sym, ◌∙◌}
+use lib.ListN.{drop}
+use Rattle.lists.specs.Fold.{all}
+use Rattle.binary.specs.Codec.{decode_rows}
+use Rattle.binary.proofs.Rows.{all_row, not-row, all-rows}
+use Rattle.state.specs.Limits.{seat_count}
+use Rattle.state.specs.Seats.{free_seat}
+use Rattle.state.specs.WellFormed.{is_well_formed_seat}
+use Rattle.checkpoint.specs.Format.{seat}
+use borrow.Author.Rules.{rules}
+use Rattle.checkpoint.proofs.check.are_well_formed_seats.Goals as goal
+
+pub loop-i-init : goal.loop-i-init
+loop-i-init c = refl
+
+pub loop-i-preserved : goal.loop-i-preserved
+loop-i-preserved c =
+    let turn = c.before.before.before in
+    let l = c.before.before.before.before in
+    let step = all_row seat seat_count l.args.table.now l.loop-i.i free_seat is_well_formed_seat _
+    turn.loop-i-test.true c.seat_at-seat.ensures _ c.is_well_formed.ensures c.if-is_well_formed.true in
+    l.loop-i.invariant ∙ step
+
+pub returns-else-is_well_formed : goal.returns-else-is_well_formed
+returns-else-is_well_formed c =
+    let turn = c.before.before.before in
+    let l = c.before.before.before.before in
+    let step = not-row seat seat_count l.args.table.now l.loop-i.i free_seat is_well_formed_seat _
+    turn.loop-i-test.true c.seat_at-seat.ensures _ c.is_well_formed.ensures c.if-is_well_formed.false in
+    sym (l.loop-i.invariant ∙ step)
+
+pub returns : goal.returns
+returns c =
+    let l = c.before in
+    sym (l.loop-i.invariant ∙ all-rows seat seat_count l.args.table.now l.loop-i.i free_seat is_well_formed_seat c.loop-i-test.false)

@@ -1,0 +1,18 @@
+use Prim.Native.Nat.{◌-◌}
+use mathlib.Core.Path.{◌≡◌, refl, sym, ◌∙◌}
+use lib.ListN.{drop}
+use Rattle.lists.specs.Fold.{all}
+use Rattle.binary.specs.Codec.{decode_rows}
+use Rattle.binary.proofs.Rows.{all_row, not-row, all-rows}
+use Rattle.state.specs.Limits.{seat_count}
+use Rattle.state.specs.Seats.{free_seat}
+use Rattle.state.specs.WellFormed.{is_well_formed_seat}
+use Rattle.checkpoint.specs.Format.{seat}
+use borrow.Author.Rules.{rules}
+use Rattle.checkpoint.proofs.check.are_well_formed_seats.Given as goal
+
+abbrev pub invariant-loop-i : goal.invariant-loop-i
+invariant-loop-i l = all is_well_formed_seat (decode_rows seat seat_count l.table) ≡ all is_well_formed_seat (drop l.i (decode_rows seat seat_count l.table))
+
+abbrev pub decreases-loop-i : goal.decreases-loop-i
+decreases-loop-i l = seat_count - l.i

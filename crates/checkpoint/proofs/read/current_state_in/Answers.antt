@@ -1,0 +1,19 @@
+use Rattle.binary.proofs.Slices.{part-from}
+use Rattle.checkpoint.specs.Layout.{tables_at}
+use Rattle.checkpoint.specs.Format.{current}
+use Rattle.checkpoint.proofs.Fields.{decoded-as, head-noticed}
+use borrow.Author.Rules.{rules}
+use Rattle.checkpoint.proofs.read.current_state_in.Goals as goal
+
+pub returns : goal.returns
+returns c =
+    let head = c.before.before in
+    let notices = head.before in
+    let b = notices.args.b.now in
+    rw (
+      decoded-as current b,
+      head-noticed b,
+      ← notices.notices_in.ensures,
+      ← head.head_in-head.ensures,
+      ← part-from tables_at b,
+    ) c.state_of.ensures

@@ -1,0 +1,6 @@
+use lib.Seq.{drop-drop}
+use borrow.Author.Rules.{rules}
+use Rattle.checkpoint.proofs.read.login_at.Goals as goal
+
+pub returns : goal.returns
+returns c = simp (drop-drop, c.u32_at.ensures, c.u32_at-2.ensures, c.u16_at.ensures)

@@ -1,0 +1,20 @@
+use Prim.Native.Nat.{◌-◌}
+use mathlib.Core.Path.{refl}
+use native.Mathlib.Omega.{arith}
+use lib.ListN.{drop}
+use Rattle.binary.proofs.Rows.{RowsRead, read_none, read_one, read_all}
+use Rattle.state.specs.Limits.{login_rows}
+use Rattle.checkpoint.specs.Format.{login}
+use Rattle.checkpoint.proofs.read.logins_at.Goals as goal
+
+pub loop-i-init : goal.loop-i-init
+loop-i-init c = read_none login login_rows _ _ refl
+
+pub loop-i-preserved : goal.loop-i-preserved
+loop-i-preserved c =
+    let l = c.before.before in
+    let a = l.args in
+    read_one login login_rows a.b.now a.at l.loop-i.i l.loop-i.rows _ l.loop-i.invariant (omega arith) c.login_at.ensures
+
+pub returns : goal.returns
+returns c = read_all login login_rows _ _ _ c.loop-i.invariant (omega arith)

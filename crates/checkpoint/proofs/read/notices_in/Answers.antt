@@ -1,0 +1,6 @@
+use lib.Seq.{get_or-drop}
+use borrow.Author.Rules.{rules}
+use Rattle.checkpoint.proofs.read.notices_in.Goals as goal
+
+pub returns : goal.returns
+returns c = simp get_or-drop

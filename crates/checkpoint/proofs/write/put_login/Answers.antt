@@ -1,0 +1,16 @@
+use mathlib.Core.Path.{refl}
+use native.Mathlib.Omega.{arith}
+use Rattle.binary.specs.Number.{to_bytes}
+use Rattle.binary.proofs.Splices.{then-put}
+use borrow.Author.Rules.{rules}
+use Rattle.checkpoint.proofs.write.put_login.Goals as goal
+
+pub returns : goal.returns
+unfolding to_bytes
+returns c =
+    let r = c.before.before in
+    let e = r.before.before.before.before in
+    let l = e.before.before.before.before in
+    then-put _ _ _ _ _ _ _ r.put_u16.ensures
+    (then-put _ _ _ _ _ _ _ e.put_u32-2.ensures
+    l.put_u32.ensures refl (omega arith)) refl (omega arith)

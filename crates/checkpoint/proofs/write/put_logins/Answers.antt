@@ -1,0 +1,26 @@
+use borrow.Author.Rules.{rules}
+use Prim.Native.Nat.{◌-◌}
+use native.Mathlib.Omega.{arith}
+use Rattle.binary.proofs.Rows.{RowsWritten, written_none, written_one, written_all}
+use Rattle.state.specs.Limits.{login_rows}
+use Rattle.checkpoint.specs.Format.{login}
+use Rattle.checkpoint.proofs.Written.{login-size}
+use Rattle.checkpoint.proofs.write.put_logins.Goals as goal
+
+pub loop-i-init : goal.loop-i-init
+loop-i-init c = written_none login login_rows _ _ _
+
+pub loop-i-preserved : goal.loop-i-preserved
+loop-i-preserved c =
+    let l = c.before.before.before.before.before.before in
+    let a = l.args in
+    written_one login login-size login_rows a.rows a.out.now a.at l.loop-i.i l.loop-i.out _ _ l.loop-i.invariant (search rules) (omega arith)
+    (omega arith) c.put_login.auto.out c.put_login.ensures
+
+pub shape_of-out : goal.shape_of-out
+shape_of-out c = c.loop-i.invariant.same_length
+
+pub returns : goal.returns
+returns c =
+    let a = c.args in
+    written_all login login_rows a.rows _ _ _ _ c.loop-i.invariant (search rules) (omega arith)

@@ -1,0 +1,16 @@
+use Prim.Native.Nat.{ℕ, ◌+◌, ◌-◌}
+use native.Mathlib.Omega.{arith}
+use mathlib.Core.Path.{sym, ap, ◌∙◌}
+use Rattle.binary.proofs.Copies.{Copied, copied_none, copied-one, copied_all}
+use Rattle.binary.proofs.Splices.{then-put}
+use Rattle.state.specs.Limits.{right_count}
+use Rattle.page.specs.Line.{places}
+use Rattle.page.proofs.Places.{length-places, place-of-right}
+use borrow.Author.Rules.{rules}
+use Rattle.page.proofs.columns.put_rights.Given as goal
+
+abbrev pub invariant-loop-i : goal.invariant-loop-i
+invariant-loop-i l = Copied l.initial.out l.at (places right_count 0 l.rights) l.i l.out
+
+abbrev pub decreases-loop-i : goal.decreases-loop-i
+decreases-loop-i l = right_count - l.i

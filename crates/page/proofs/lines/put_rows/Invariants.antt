@@ -1,0 +1,11 @@
+use Prim.Native.Nat.{◌-◌}
+use native.Mathlib.Omega.{arith}
+use Rattle.state.specs.Limits.{login_rows}
+use Rattle.page.proofs.Rows.{LinesWritten, written_none, room-for-row, written_one, written_all}
+use Rattle.page.proofs.lines.put_rows.Given as goal
+
+abbrev pub invariant-loop-i : goal.invariant-loop-i
+invariant-loop-i l = LinesWritten l.silent l.t l.rows l.initial.out l.i l.at l.out
+
+abbrev pub decreases-loop-i : goal.decreases-loop-i
+decreases-loop-i l = login_rows - l.i

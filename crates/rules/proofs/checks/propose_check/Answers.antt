@@ -1,0 +1,12 @@
+use Rattle.rules.specs.Rules.{check_refusal}
+use Rattle.rules.proofs.CaseKinds.{other-case}
+use borrow.Author.Rules.{rules}
+use Rattle.rules.proofs.checks.propose_check.Goals as goal
+
+pub returns-in_default : goal.returns-in_default
+returns-in_default c d = absurd (other-case c.args.action 0 c.requires (tt {0}) c.in_default.in_default-own.keys2)
+
+pub returns : goal.returns
+unfolding check_refusal
+returns c d =
+    rw (c.in-Propose.is, ← c.proposals_full.ensures) c.refuse_if.ensures

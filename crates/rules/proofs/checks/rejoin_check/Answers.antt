@@ -1,0 +1,20 @@
+use Rattle.rules.specs.Rules.{check_refusal}
+use Rattle.rules.proofs.CaseKinds.{other-case}
+use Rattle.rules.proofs.Finding.{of-case}
+use borrow.Author.Rules.{rules}
+use Rattle.rules.proofs.checks.rejoin_check.Goals as goal
+
+pub returns-in_default : goal.returns-in_default
+returns-in_default c d = absurd (other-case c.args.action 6 c.requires.0 (tt {0}) c.in_default.in_default-own.keys2)
+
+pub returns : goal.returns
+unfolding check_refusal
+returns c d =
+    let f = of-case c.args.s c.args.found c.in-Rejoin.is c.requires.1 in
+    rw (
+      c.in-Rejoin.is,
+      ← f.1.1,
+      ← c.is_active.ensures,
+      ← c.refuse_if-unfit.ensures,
+      ← c.refuse_if.ensures,
+    ) c.or_else.ensures

@@ -3,15 +3,12 @@ use Prim.Native.Nat.{ℕ, ◌≤◌, ◌<◌}
 use native.Mathlib.Nat.{min-le_right}
 use native.Mathlib.Omega.{arith}
 use mathlib.Core.Path.{◌≡◌, refl, sym, ap, ◌∙◌}
-use mathlib.Core.List.{List, [], ◌∷◌}
+use mathlib.Core.List.{List}
 use mathlib.Core.Option.{none, bind}
 use lib.ListN.{length, take, length-take}
 use borrow.Author.Tests.{le-leb, lt-leb}
-use types.Run.{OneOf, miss}
-use denote.Enum.Declared.{tag_of}
 use Rattle.calendar.specs.Text.{last_day}
 use Rattle.state.specs.declared.Login.{Login}
-use Rattle.records.specs.contracts.Action.{the_type}
 use Rattle.records.specs.declared.Announcement.{Announcement}
 use Rattle.records.specs.declared.Action.{Action}
 use Rattle.records.specs.declared.Action.TheVariants.{Propose, Cancel, Presents, Certify, Minima, Remove, Rejoin, Grant, End}
@@ -26,20 +23,16 @@ taken-fits n bytes line e s =
     let same = s ∙ ap length (sym e) ∙ length-take n bytes in
     omega (arith, min-le_right n (length bytes))
 
--- the cases of an action but for a grant
-abbrev others : List ℕ
-others = 0 ∷ 1 ∷ 2 ∷ 3 ∷ 4 ∷ 5 ∷ 6 ∷ 8 ∷ []
-
-no_row : (x : Action) → OneOf others (tag_of the_type x) → granted x ≡ none
-no_row (Propose x) o = refl
-no_row (Cancel c) o = refl
-no_row (Presents i flag) o = refl
-no_row (Certify i life) o = refl
-no_row (Minima x) o = refl
-no_row (Remove i) o = refl
-no_row (Rejoin i life) o = refl
-no_row (Grant r) o = absurd (miss others 7 (tt {0}) o)
-no_row (End login) o = refl
+no_row : (x : Action) → ((r : Login) → x ≡ Grant r → ⊥) → granted x ≡ none
+no_row (Propose x) n = refl
+no_row (Cancel c) n = refl
+no_row (Presents i flag) n = refl
+no_row (Certify i life) n = refl
+no_row (Minima x) n = refl
+no_row (Remove i) n = refl
+no_row (Rejoin i life) n = refl
+no_row (Grant r) n = absurd (n r refl)
+no_row (End login) n = refl
 
 module _ (b out : List ℕ) where
   pub not-read : read_announcement b ≡ Malformed → export_of b out ≡ refused 24 out
@@ -47,9 +40,9 @@ module _ (b out : List ℕ) where
   not-read e = rw e
 
   module _ (a : Announcement) (e : read_announcement b ≡ Read a) where
-    pub not-granted : OneOf others (tag_of the_type a.action) → export_of b out ≡ refused 24 out
+    pub not-granted : ((r : Login) → a.action ≡ Grant r → ⊥) → export_of b out ≡ refused 24 out
     unfolding export_of exported bind
-    not-granted o = rw (e, no_row a.action o)
+    not-granted n = rw (e, no_row a.action n)
 
     module _ (r : Login) (g : a.action ≡ Grant r) where
       pub too-late : last_day < r.end.0 → export_of b out ≡ refused 24 out

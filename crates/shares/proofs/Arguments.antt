@@ -64,6 +64,7 @@ module _ (n : ℕ) where
       (λ m. true≢false (sym (any-to (eqb x) m (eq-eqb x x refl)) ∙ f.absent), distinct_of xs f.rest)
 
   pub each_of : (xs : List ℕ) → are_numbers n xs ≡ true → (x : ℕ) → Memᴰ x xs → (1 ≤ x) × (x ≤ n)
+  each_of [] e x m = elim m [ ]
   each_of (y ∷ ys) e x (Memᴰ.head p) = let f = first y ys e in rw p (f.above, f.below)
   each_of (y ∷ ys) e x (Memᴰ.tail m) = each_of ys (first y ys e).rest x m
 

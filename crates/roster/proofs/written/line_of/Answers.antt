@@ -1,0 +1,17 @@
+use mathlib.Core.Path.{sym, ap, ◌∙◌}
+use lib.ListN.{take}
+use lib.Seq.{take_at}
+use Rattle.binary.specs.Number.{overwrite}
+use Rattle.roster.specs.Roster.{line_of}
+use Rattle.roster.proofs.written.line_of.Goals as goal
+
+pub returns : goal.returns
+unfolding overwrite
+returns c =
+    let put = c.put_line-length in
+    let line = line_of c.args.row in
+    record {
+      bytes_value = ap (take put.result) put.ensures.out_after ∙ take_at line _ put.result (sym put.ensures.value);
+      length_value = put.ensures.value;
+      length_bound = put.ensures.upper_bound;
+    }

@@ -4,7 +4,7 @@
 /// Whether the library was there when the package was built.
 pub const IS_LINKED: bool = cfg!(not(no_archive));
 
-pub const MISSING: &str = "libnode_c.a is missing: run `rt staticlib node_c` first, or name its \
+pub const MISSING: &str = "libnode_c.a is missing: run `bin/node-c` first, or name its \
     folder in NODE_C_DIR";
 
 #[cfg(not(no_archive))]

@@ -36,7 +36,7 @@ fn begin() -> Result<ExitCode, ExitCode> {
         ["calls", paths @ ..] => calls(paths),
         ["--node-run"] => return Err(PROGRAM.wrong("--node-run takes a path")),
         ["--node-run", program, paths @ ..] => run(program.into(), paths),
-        paths => run(root().join("target/bin/node_run"), paths),
+        paths => run(root().join("crates/node_run/out/node_run"), paths),
     };
     done.map_err(|message| PROGRAM.failed(&message))
 }

@@ -7,11 +7,11 @@ use Rattle.checkpoint.specs.Layout.{checkpoint_size}
 abbrev pub image_size : ℕ
 image_size = 1144
 
-abbrev pub field_own : ℕ
-field_own = checkpoint_size
+abbrev pub own_at : ℕ
+own_at = checkpoint_size
 
 abbrev pub life_at : ℕ
-life_at = field_own + 1
+life_at = own_at + 1
 
 abbrev pub flag_at : ℕ
 flag_at = life_at + 4

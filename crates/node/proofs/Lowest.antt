@@ -88,6 +88,11 @@ unfolding checkpoint_of
 checkpoint-up-to t (no-3 h) = untried t (omega arith) (omega arith)
 checkpoint-up-to t (no-6 h) = untried t (omega arith) (omega arith)
 checkpoint-up-to t (no-22 h) = rw (lt-leb _ _ h) (omega arith)
+checkpoint-up-to {n = n} {out = out} t (Rattle.node.specs.Applies.no-1 x5) = elim x5 [ ]
+checkpoint-up-to {n = n} {out = out} t (Rattle.node.specs.Applies.no_9 x6) = elim x6 [ ]
+checkpoint-up-to {n = n} {out = out} t (Rattle.node.specs.Applies.no-11 x7) = elim x7 [ ]
+checkpoint-up-to {n = n} {out = out} t (Rattle.node.specs.Applies.no-13 x8) = elim x8 [ ]
+checkpoint-up-to {n = n} {out = out} t (Rattle.node.specs.Applies.no-14 x9) = elim x9 [ ]
 
 page-up-to : {n : Node} {given : Day} {out : List ℕ} {j : ℕ} → Tries (at n (page given out)) j → Applies (at n (page given out)) j
     → UpTo j (page_number (page_of n out).answer)
@@ -95,6 +100,11 @@ unfolding page_of
 page-up-to t (no-3 h) = untried t (omega arith) (omega arith)
 page-up-to t (no-6 h) = untried t (omega arith) (omega arith)
 page-up-to t (no-23 h) = rw (lt-leb _ _ h) (omega arith)
+page-up-to {n = n} {given = given} {out = out} t (Rattle.node.specs.Applies.no-1 x5) = elim x5 [ ]
+page-up-to {n = n} {given = given} {out = out} t (Rattle.node.specs.Applies.no_9 x6) = elim x6 [ ]
+page-up-to {n = n} {given = given} {out = out} t (Rattle.node.specs.Applies.no-11 x7) = elim x7 [ ]
+page-up-to {n = n} {given = given} {out = out} t (Rattle.node.specs.Applies.no-13 x8) = elim x8 [ ]
+page-up-to {n = n} {given = given} {out = out} t (Rattle.node.specs.Applies.no-14 x9) = elim x9 [ ]
 
 up_to : (x : Asked) (j : ℕ) → Tries x j → Applies x j → UpTo j (number_given x)
 up_to (start cb sb) j t h = start-up-to h

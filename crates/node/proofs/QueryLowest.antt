@@ -103,3 +103,7 @@ query-up-to {n} {qb} t (no-20 {q = q} rq l h) =
 query-up-to {n} {qb} t (no-21 {q = q} rq l h) =
     let e : not (holds_right q.right (find_login q.login n.state.logins)) ≡ true = ap not h in
     by_read n qb q rq (search reaches depth 12)
+query-up-to {n = n} {qb = qb} t (Rattle.node.specs.Applies.no_9 x5) = elim x5 [ ]
+query-up-to {n = n} {qb = qb} t (Rattle.node.specs.Applies.no-11 x6) = elim x6 [ ]
+query-up-to {n = n} {qb = qb} t (Rattle.node.specs.Applies.no-13 x7) = elim x7 [ ]
+query-up-to {n = n} {qb = qb} t (Rattle.node.specs.Applies.no-14 x8) = elim x8 [ ]

@@ -103,3 +103,5 @@ start-up-to {cb} (no_9 (starting {y = y} {seat = seat} st h)) =
 start-up-to {cb} (no-14 (starting {y = y} {seat = seat} st h)) =
     let e : ltb y.life (seat_at y.seat (read_checkpoint cb).state.seats).life ≡ true = rw st.named at (lt-ltb y.life seat.life h) in
     by_read st (search reaches depth 12)
+start-up-to {cb = cb} {sb = sb} (Table.no-11 x4) = elim x4 [ ]
+start-up-to {cb = cb} {sb = sb} (Table.no-13 x5) = elim x5 [ ]

@@ -117,8 +117,7 @@ fn hand_out(state: State, own: Own, counts: AttemptCounts, out: &mut [u8]) -> u3
     0
 }
 
-#[unsafe(no_mangle)]
-pub extern "C" fn node_start(checkpoint: &[u8], start: &[u8], out: &mut [u8]) -> u32
+pub fn node_start(checkpoint: &[u8], start: &[u8], out: &mut [u8]) -> u32
     ensures value { result ≡ (node_start checkpoint.now start.now out.old).number }
     ensures out_after { out.new ≡ (node_start checkpoint.now start.now out.old).slice }
 {
@@ -134,13 +133,7 @@ pub extern "C" fn node_start(checkpoint: &[u8], start: &[u8], out: &mut [u8]) ->
     try_room(IMAGE_SIZE <= out.len(), number)
 }
 
-#[unsafe(no_mangle)]
-pub extern "C" fn node_deliver(
-    image: &[u8],
-    announcement: &[u8],
-    sheet: &[u8],
-    out: &mut [u8],
-) -> u32
+pub fn node_deliver(image: &[u8], announcement: &[u8], sheet: &[u8], out: &mut [u8]) -> u32
     ensures value { result ≡ (node_deliver image.now announcement.now sheet.now out.old).number }
     ensures out_after { out.new ≡ (node_deliver image.now announcement.now sheet.now out.old).slice }
 {
@@ -160,8 +153,7 @@ pub extern "C" fn node_deliver(
     1
 }
 
-#[unsafe(no_mangle)]
-pub extern "C" fn node_query(image: &[u8], query: &[u8], out: &mut [u8]) -> u32
+pub fn node_query(image: &[u8], query: &[u8], out: &mut [u8]) -> u32
     ensures value { result ≡ (node_query image.now query.now out.old).number }
     ensures out_after { out.new ≡ (node_query image.now query.now out.old).slice }
 {
@@ -182,8 +174,7 @@ pub extern "C" fn node_query(image: &[u8], query: &[u8], out: &mut [u8]) -> u32
     1
 }
 
-#[unsafe(no_mangle)]
-pub extern "C" fn node_checkpoint(image: &[u8], out: &mut [u8]) -> u32
+pub fn node_checkpoint(image: &[u8], out: &mut [u8]) -> u32
     ensures value { result ≡ (node_checkpoint image.now out.old).number }
     ensures out_after { out.new ≡ (node_checkpoint image.now out.old).slice }
 {
@@ -196,8 +187,7 @@ pub extern "C" fn node_checkpoint(image: &[u8], out: &mut [u8]) -> u32
     1
 }
 
-#[unsafe(no_mangle)]
-pub extern "C" fn node_page(image: &[u8], day: u32, out: &mut [u8]) -> u32
+pub fn node_page(image: &[u8], day: u32, out: &mut [u8]) -> u32
     ensures value { result ≡ (node_page image.now day out.old).number }
     ensures out_after { out.new ≡ (node_page image.now day out.old).slice }
 {
@@ -210,8 +200,7 @@ pub extern "C" fn node_page(image: &[u8], day: u32, out: &mut [u8]) -> u32
     1
 }
 
-#[unsafe(no_mangle)]
-pub extern "C" fn node_roster_import(roster: &[u8], cycle: u32, day: u32, out: &mut [u8]) -> u32
+pub fn node_roster_import(roster: &[u8], cycle: u32, day: u32, out: &mut [u8]) -> u32
     ensures value { result ≡ (node_roster_import roster.now cycle day out.old).number }
     ensures out_after { out.new ≡ (node_roster_import roster.now cycle day out.old).slice }
 {
@@ -219,8 +208,7 @@ pub extern "C" fn node_roster_import(roster: &[u8], cycle: u32, day: u32, out: &
     roster_number(answer)
 }
 
-#[unsafe(no_mangle)]
-pub extern "C" fn node_roster_export(announcement: &[u8], out: &mut [u8]) -> u32
+pub fn node_roster_export(announcement: &[u8], out: &mut [u8]) -> u32
     ensures value { result ≡ (node_roster_export announcement.now out.old).number }
     ensures out_after { out.new ≡ (node_roster_export announcement.now out.old).slice }
 {

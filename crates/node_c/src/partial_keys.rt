@@ -33,14 +33,7 @@ fn add_number(a: AddAnswer) -> u32
     }
 }
 
-#[unsafe(no_mangle)]
-pub extern "C" fn node_shares_split(
-    key: &[u8],
-    k: u32,
-    n: u32,
-    coefficients: &[u8],
-    out: &mut [u8],
-) -> u32
+pub fn node_shares_split(key: &[u8], k: u32, n: u32, coefficients: &[u8], out: &mut [u8]) -> u32
     ensures value { result ≡ (node_shares_split key.now k n coefficients.now out.old).number }
     ensures out_after { out.new ≡ (node_shares_split key.now k n coefficients.now out.old).slice }
 {
@@ -48,14 +41,7 @@ pub extern "C" fn node_shares_split(
     split_number(answer)
 }
 
-#[unsafe(no_mangle)]
-pub extern "C" fn node_shares_merge(
-    k: u32,
-    n: u32,
-    numbers: &[u8],
-    shares: &[u8],
-    out: &mut [u8],
-) -> u32
+pub fn node_shares_merge(k: u32, n: u32, numbers: &[u8], shares: &[u8], out: &mut [u8]) -> u32
     ensures value { result ≡ (node_shares_merge k n numbers.now shares.now out.old).number }
     ensures out_after { out.new ≡ (node_shares_merge k n numbers.now shares.now out.old).slice }
 {
@@ -63,8 +49,7 @@ pub extern "C" fn node_shares_merge(
     merge_number(answer)
 }
 
-#[unsafe(no_mangle)]
-pub extern "C" fn node_shares_add(first: &[u8], second: &[u8], out: &mut [u8]) -> u32
+pub fn node_shares_add(first: &[u8], second: &[u8], out: &mut [u8]) -> u32
     ensures value { result ≡ (node_shares_add first.now second.now out.old).number }
     ensures out_after { out.new ≡ (node_shares_add first.now second.now out.old).slice }
 {

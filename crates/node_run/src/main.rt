@@ -8,9 +8,9 @@ ghost use Rattle.requests.specs.Lines.{line_room};
 ghost use Rattle.node_run.specs.Buffers.{Fits, last_ordinal, flushed};
 ghost use Rattle.node_run.specs.Turns.{Filling, Ready, Answered, Turned, Finished};
 
-use libc::{STDIN_FILENO, STDOUT_FILENO};
 use node::{Node, blank_node};
 use requests::{LINE_ROOM, holds_request, put_line, shift, take_step};
+use std::io::{Read, Stdin, Stdout, Write};
 
 // Two records of the greatest length, and more to read few times.
 const INPUT: usize = 262144;
@@ -47,23 +47,24 @@ struct Filled {
 }
 
 // Reads once into the buffer, from an index on, and answers up to where it now holds input. A read that fails ends the input.
-fn read_more(input: &mut [u8], to: usize) -> usize
+fn read_more(mut stdin: Stdin, input: &mut [u8], to: usize) -> usize
     requires { to ≤ length input.old }
     ensures { (to ≤ result) × ((result ≤ length input.new) × (take to input.new ≡ take to input.old)) }
 {
-    let rest = &mut input[to..];
-    let got = libc::read(STDIN_FILENO, rest);
-    to + io::count(got, rest)
+    match stdin.read(&mut input[to..]) {
+        Ok(got) => to + got,
+        Err(_) => to,
+    }
 }
 
 // Reads until the buffer, which holds input from its start, holds a request or a read gives nothing.
-fn read_request(input: &mut [u8], start: usize) -> Filled
+fn read_request(stdin: Stdin, input: &mut [u8], start: usize) -> Filled
     requires { (start ≤ length input.old) × (request_room ≤ length input.old) }
     ensures { Filling start input.old result.to result.exhausted input.new }
 {
     let mut to = start;
     while !holds_request(&input[0..to]) {
-        let more = read_more(input, to);
+        let more = read_more(stdin, input, to);
         if more == to {
             return Filled {
                 to: to,
@@ -79,12 +80,12 @@ fn read_request(input: &mut [u8], start: usize) -> Filled
 }
 
 // Writes the pending lines.
-fn flush(run: Run, output: &[u8]) -> Run
+fn flush(run: Run, mut stdout: Stdout, output: &[u8]) -> Run
     requires { run.pending ≤ length output.now }
     ensures { (result ≡ flushed run result.failed) × (run.failed ≡ true → result.failed ≡ true) }
 {
     let pending = run.pending;
-    let written = io::write_all(STDOUT_FILENO, &output[0..pending]);
+    let written = stdout.write_all(&output[0..pending]).is_ok();
     let mut next = run;
     next.pending = 0;
     next.failed = run.failed | !written;
@@ -93,7 +94,7 @@ fn flush(run: Run, output: &[u8]) -> Run
 
 // Sees to it that the buffers hold the next request whole, or all that is left of the input, and have room for its line. Pending lines are
 // written before a read, which may wait.
-fn next_request(run: Run, input: &mut [u8], output: &[u8]) -> Run
+fn next_request(run: Run, stdin: Stdin, input: &mut [u8], stdout: Stdout, output: &[u8]) -> Run
     requires fits { Fits 0 run (length input.old) (length output.now) }
     requires request_room_in_bounds { (request_room ≤ length input.old) × (line_room ≤ length output.now) }
     ensures { Ready run input.old output.now result input.new }
@@ -104,11 +105,11 @@ fn next_request(run: Run, input: &mut [u8], output: &[u8]) -> Run
         if run.pending <= output.len() - LINE_ROOM {
             return run;
         }
-        return flush(run, output);
+        return flush(run, stdout, output);
     }
-    let mut ready = flush(run, output);
+    let mut ready = flush(run, stdout, output);
     shift(input, from, to);
-    let filled = read_request(input, to - from);
+    let filled = read_request(stdin, input, to - from);
     ready.from = 0;
     ready.to = filled.to;
     ready.exhausted = filled.exhausted;
@@ -144,13 +145,13 @@ fn answer(run: Run, input: &[u8], output: &mut [u8]) -> Run
 }
 
 // Answers the next request, unless the input ended or a write failed.
-fn turn(run: Run, input: &mut [u8], output: &mut [u8]) -> Run
+fn turn(run: Run, stdin: Stdin, input: &mut [u8], stdout: Stdout, output: &mut [u8]) -> Run
     requires fits { Fits 0 run (length input.old) (length output.old) }
     requires request_room_in_bounds { (request_room ≤ length input.old) × (line_room ≤ length output.old) }
     requires ordinal_lt_last_ordinal { run.ordinal < last_ordinal }
     ensures { Turned run input.old output.old result input.new output.new }
 {
-    let mut ready = next_request(run, input, output);
+    let mut ready = next_request(run, stdin, input, stdout, output);
     if ready.failed {
         return ready;
     }
@@ -162,7 +163,7 @@ fn turn(run: Run, input: &mut [u8], output: &mut [u8]) -> Run
 }
 
 // Answers request after request, from none on, and writes their lines.
-fn answer_all(input: &mut [u8], output: &mut [u8]) -> Run
+fn answer_all(stdin: Stdin, input: &mut [u8], stdout: Stdout, output: &mut [u8]) -> Run
     requires request_room_in_bounds { request_room ≤ length input.old }
     requires line_room_in_bounds { line_room ≤ length output.old }
     ensures { Finished result input.new }
@@ -178,13 +179,13 @@ fn answer_all(input: &mut [u8], output: &mut [u8]) -> Run
         failed: false,
     };
     while !(run.ends | run.failed) & (run.ordinal < LAST_ORDINAL) {
-        run = turn(run, input, output);
+        run = turn(run, stdin, input, stdout, output);
     }
-    flush(run, output)
+    flush(run, stdout, output)
 }
 
-fn main() {
+fn main(rt: HostRuntime) {
     let mut input = [0u8; INPUT];
     let mut output = [0u8; OUTPUT];
-    answer_all(&mut input, &mut output);
+    answer_all(rt.stdin(), &mut input, rt.stdout(), &mut output);
 }

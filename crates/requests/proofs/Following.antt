@@ -5,7 +5,7 @@ use mathlib.Core.Path.{◌≡◌, refl, ap}
 use mathlib.Core.Bool.{Bool, true, false, cond, ◌&&◌, or-true, and-eq-true_iff}
 use mathlib.Core.List.{List, [], ◌∷◌, ◌++◌}
 use lib.Dec.{eqb, leb}
-use lib.ListN.{length, drop, length-append, length-drop}
+use lib.ListN.{length, take, drop, length-append, length-drop}
 use lib.Seq.{take-append-le, drop-append-le}
 use borrow.Author.Tests.{le-leb}
 use Rattle.binary.specs.Number.{from_bytes, field}
@@ -17,7 +17,9 @@ use Rattle.requests.specs.declared.Frame.TheVariants.{Record, Cut}
 use Rattle.requests.specs.declared.Step.{Step}
 use Rattle.requests.specs.Framing.{record_head, size_of, kind_of, is_announcement, is_query, is_checkpoint_kind, is_sheet_kind, least_size, has_second}
 use Rattle.requests.specs.Framing.{holds_record, frame_of, holds_request}
-use Rattle.requests.specs.Requests.{is_none, cuts, with_second, step_start, step_deliver, step_query, placed, step_of}
+use Rattle.node.specs.Start.{start_of}
+use Rattle.node.specs.Deliver.{deliver_of}
+use Rattle.requests.specs.Requests.{is_none, cuts, answers, deliver_answer, after_start, with_second, step_start, step_deliver, step_query, placed, step_of}
 use Rattle.requests.specs.Claims.{MoreInput}
 use Rattle.requests.proofs.Frames.{record-heads, record-fits, frame-fits}
 
@@ -63,11 +65,11 @@ module _ (c : List ℕ) where
   module _ (n : Node) (b : List ℕ) (size : ℕ) (fits : size ≤ length b) where
     start-front : holds_record (drop size b) ≡ true → step_start n size (b ++ c) ≡ step_start n size b
     unfolding step_start
-    start-front h = rw (take-append-le size b c fits, drop-append-le size b c fits) (second-front n is_checkpoint_kind _ (drop size b) h)
+    start-front h = rw (take-append-le size b c fits, drop-append-le size b c fits) (second-front n is_checkpoint_kind (λ more sb. after_start n (size + more) (start_of sb (take size b))) (drop size b) h)
 
     deliver-front : holds_record (drop size b) ≡ true → step_deliver n size (b ++ c) ≡ step_deliver n size b
     unfolding step_deliver
-    deliver-front h = rw (take-append-le size b c fits, drop-append-le size b c fits) (second-front n is_sheet_kind _ (drop size b) h)
+    deliver-front h = rw (take-append-le size b c fits, drop-append-le size b c fits) (second-front n is_sheet_kind (λ more sb. answers (deliver_of n (take size b) sb).node (deliver_answer (deliver_of n (take size b) sb).answer) (size + more)) (drop size b) h)
 
     query-front : step_query n size (b ++ c) ≡ step_query n size b
     unfolding step_query

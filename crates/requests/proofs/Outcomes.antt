@@ -70,11 +70,11 @@ module _ (n : Node) (b : List ℕ) (P : Step → Type 0)
       let rest = drop size b in
       let two : (more k : ℕ) → frame_of rest ≡ Record more k → Whole b (size + more) = λ more k g. whole-two b size kind more k e g in
       cond_cases P (eqb kind kind_start)
-      (λ _. second-cases is_checkpoint_kind _ rest (frame_of rest) (λ more k g. start (size + more) (take more rest) (take size b) (two more k g)))
+      (λ _. second-cases is_checkpoint_kind (λ more sb. after_start n (size + more) (start_of sb (take size b))) rest (frame_of rest) (λ more k g. start (size + more) (take more rest) (take size b) (two more k g)))
       (λ _. cond_cases P (is_none n) (λ _. cut)
       (λ _. cond_cases P (is_query kind) (λ t. query size (take size b) (whole-one b size kind e t))
       (λ _. cond_cases P (is_announcement kind)
-      (λ _. second-cases is_sheet_kind _ rest (frame_of rest) (λ more k g. deliver (size + more) (take size b) (take more rest) (two more k g)))
+      (λ _. second-cases is_sheet_kind (λ more sb. answers (deliver_of n (take size b) sb).node (deliver_answer (deliver_of n (take size b) sb).answer) (size + more)) rest (frame_of rest) (λ more k g. deliver (size + more) (take size b) (take more rest) (two more k g)))
       (λ _. cut))))
 
   pub step-cases : P (step_of n b)

@@ -8,8 +8,6 @@ use Rattle.page.proofs.columns.put_login.Goals as goal
 
 pub returns : goal.returns
 returns c =
-    let w = c.before.before in
-    let x = w.before.before.before.before in
-    let a = x.args in
+    let a = c.args in
     let size = login-back.long a.login (omega arith) in
-    then-put _ _ _ _ _ a.at _ w.put_u8.ensures x.put_aligned.ensures (ap (λ (n : ℕ). a.at + n) size) (omega arith)
+    then-put _ _ _ _ _ a.at _ c.put_u8.ensures c.put_aligned.ensures (ap (λ (n : ℕ). a.at + n) size) (omega arith)

@@ -14,27 +14,23 @@ loop-i-init c = copied_none _ _ _
 
 pub bounds-out-to : goal.bounds-out-to
 bounds-out-to c =
-    let l = c.before.before in
-    let a = l.args in
-    omega (arith, length-places right_count 0 a.rights, l.loop-i.invariant.same_length)
+    let a = c.args in
+    omega (arith, length-places right_count 0 a.rights, c.loop-i.invariant.same_length)
 
 pub loop-i-preserved : goal.loop-i-preserved
 loop-i-preserved c =
-    let l = c.before.before in
-    let a = l.args in
+    let a = c.args in
     let size = length-places right_count 0 a.rights in
-    let e = c.place_of.ensures ∙ sym (place-of-right l.loop-i.i a.rights (omega arith)) in
-    rw e (copied-one a.out.now a.at (places right_count 0 a.rights) l.loop-i.i l.loop-i.out l.loop-i.invariant (omega arith) (omega arith))
+    let e = c.place_of.ensures ∙ sym (place-of-right c.loop-i.i a.rights (omega arith)) in
+    rw e (copied-one a.out.now a.at (places right_count 0 a.rights) c.loop-i.i c.loop-i.out c.loop-i.invariant (omega arith) (omega arith))
 
 pub put_u8-requires : goal.put_u8-requires
 put_u8-requires c = omega (arith, c.loop-i.invariant.same_length)
 
 pub returns : goal.returns
 returns c =
-    let w = c.before.before in
-    let l = w.before.before.before in
-    let a = l.args in
+    let a = c.args in
     let size = length-places right_count 0 a.rights in
-    then-put _ _ _ _ _ a.at _ w.put_u8.ensures
-    (copied_all a.out.now a.at (places right_count 0 a.rights) l.loop-i.i _ l.loop-i.invariant (omega arith))
+    then-put _ _ _ _ _ a.at _ c.put_u8.ensures
+    (copied_all a.out.now a.at (places right_count 0 a.rights) c.loop-i.i _ c.loop-i.invariant (omega arith))
     (ap (λ (n : ℕ). a.at + n) size) (omega arith)

@@ -18,11 +18,9 @@ returns-then-not-is_used c =
 
 pub put_line-requires : goal.put_line-requires
 put_line-requires c =
-    let no = c.before in
-    let start = no.before.before.before in
-    let a = start.args in
-    let yes = sym no.is_used.ensures ∙ no.if-not-is_used.false in
-    rw (one_line a.row yes) at start.requires
+    let a = c.args in
+    let yes = sym c.is_used.ensures ∙ c.if-not-is_used.false in
+    rw (one_line a.row yes) at c.requires
 
 pub returns : goal.returns
 returns c =

@@ -5,6 +5,4 @@ use Rattle.page.proofs.lines.write_page.Goals as goal
 pub returns : goal.returns
 unfolding page_text
 returns c =
-    let put = c.before.before in
-    let silent = put.before.before in
-    rw (silent.is_silent-silent.ensures, silent.later-t.ensures) at put.put_rows.ensures
+    rw (c.is_silent-silent.ensures, c.later-t.ensures) at c.put_rows.ensures

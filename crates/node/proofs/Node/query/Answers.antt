@@ -1,0 +1,7 @@
+use Rattle.node.specs.Query.{query_of}
+use borrow.Author.Rules.{rules}
+use Rattle.node.proofs.Node.query.Goals as goal
+
+pub returns : goal.returns
+unfolding query_of
+returns c = rw c.ask-r.ensures

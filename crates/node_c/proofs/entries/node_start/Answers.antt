@@ -1,0 +1,19 @@
+use mathlib.Core.Path.{sym}
+use Rattle.node_c.specs.Calls.{node_start, return}
+use Rattle.node_c.proofs.Kept.{start-leaves}
+use borrow.Author.Rules.{rules}
+use Rattle.node_c.proofs.entries.node_start.Goals as goal
+
+pub returns-then-number-eq0 : goal.returns-then-number-eq0
+unfolding node_start
+returns-then-number-eq0 c =
+    record {
+      value = rw (← c.start-r.ensures, ← c.start_number-number.ensures, c.if-number-eq0.true) c.hand_out.ensures.value;
+      out_after = rw (← c.start-r.ensures, ← c.start_number-number.ensures, c.if-number-eq0.true) c.hand_out.ensures.out_after;
+    }
+
+pub returns : goal.returns
+unfolding node_start return
+returns c =
+    let a = c.args in
+    let n = rw (c.start_number-number.ensures, c.start-r.ensures) at c.if-number-eq0.false in record { value = rw (← c.start-r.ensures, ← c.start_number-number.ensures) c.try_room.ensures; out_after = sym (start-leaves a.checkpoint.now a.start.now a.out.now n) }

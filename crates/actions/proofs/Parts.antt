@@ -3,8 +3,6 @@ use Prim.Native.Nat.{ℕ, ◌≤◌}
 use mathlib.Core.Path.{◌≡◌, refl, sym, ap, ◌∙◌}
 use mathlib.Core.List.{List}
 use native.Mathlib.Omega.{arith}
-use borrow.Enum.Refused.{Among}
-use denote.Enum.Declared.{tag_of}
 use lib.ListN.{length, set}
 use lib.Seq.{set_out}
 use Rattle.state.specs.declared.Day.{Day}
@@ -18,13 +16,11 @@ use Rattle.state.specs.Seats.{seat_at}
 use Rattle.state.specs.Update.{with, with_time, with_proposals, with_logins}
 use Rattle.tables.specs.Proposals.{notice_in}
 use Rattle.tables.specs.Logins.{grant_login, end_login}
-use Rattle.records.specs.contracts.Action.{the_type}
 use Rattle.records.specs.declared.Action.{Action}
 use Rattle.records.specs.declared.Action.TheVariants as case
 use Rattle.records.specs.Actions.{subject_of, seat_of}
 use Rattle.rules.specs.declared.Found.{Found}
 use Rattle.rules.specs.Code.{FindsNotice}
-use Rattle.rules.proofs.CaseKinds.{others, cases, other-case}
 use Rattle.actions.specs.Perform.{with_standing, with_life, effect, use_proposal, act}
 use Rattle.actions.specs.Code.{seat_after, minima_after, proposals_after}
 

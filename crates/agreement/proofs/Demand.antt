@@ -36,7 +36,7 @@ use Rattle.node.proofs.Deliver.{deliver-comes-to}
 use Rattle.node.proofs.Query.{query-comes-to}
 use Rattle.node.proofs.Numbers.{deliver-numbers, query-numbers}
 use Rattle.node_c.specs.Calls.{delivered, asked}
-use Rattle.agreement.specs.History.{History, Moment, Outcome, run, answer}
+use Rattle.agreement.specs.History.{History, Moment, Outcome, run}
 use Rattle.agreement.specs.Claims.{Performed, Opened, PerformedIn, OpenedIn, HeldIn, Park, EquivocationBound, Agreement, Ended, Demand3, AlwaysWellFormed}
 use Rattle.agreement.specs.Claims.{GrantedBetween, ImagesReadBack}
 use Rattle.agreement.specs.Chain.{Step, Reached, AlwaysReached}

@@ -32,7 +32,7 @@ use Rattle.image.proofs.RoundTrips.{node-read-back}
 use Rattle.node.proofs.WellFormedNodes.{start-makes-well-formed, deliver-keeps-well-formed, query-keeps-well-formed}
 use Rattle.node_c.specs.Calls.{HandedBack, started, delivered, asked}
 use Rattle.agreement.specs.History.{Host, by_value, through_c, Call, start, deliver, query, checkpoint, History, Cluster, empty, Outcome}
-use Rattle.agreement.specs.History.{image_node, node_at, put_node, put_image, give, answers, run, Moment, answer, after, moments_from}
+use Rattle.agreement.specs.History.{image_node, node_at, put_node, put_image, give, answers, run, Moment, after, moments_from}
 use Rattle.agreement.specs.Claims.{Park, ◌∈◌}
 use Rattle.agreement.specs.Chain.{Step, Reached, origin, next}
 use Rattle.agreement.proofs.Calls.{leave, on_host, run-deliver, run-query, Left, ran, start_by, run-start, start-refused, start-accepted, Gave}

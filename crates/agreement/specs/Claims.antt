@@ -9,7 +9,7 @@
 --   List.Memᴰ x l   x stands in the list l; t ∈ calls: t is a moment of the list, a call with the cluster that it finds
 --   after t         the cluster after that call; node_at w h: the node that host h holds in w, or none
 --   accepted        the answer 0: started, performed, open or given; `EquivocationBound` is the paper's double-voter bound
-use Rattle.std.specs.Prelude.{◌≡◌, ◌≢◌, ◌⊎◌, true, ℕ, ◌+◌, ◌*◌, ◌≤◌, ◌<◌}
+use Rattle.std.specs.Prelude.{◌≡◌, ◌≢◌, ◌⊎◌, true, ℕ, ◌*◌, ◌≤◌, ◌<◌}
 use mathlib.Core.List.{List, [], ◌++◌, ◌∷◌, Memᴰ}
 use Rattle.std.proofs.Math.Option.{some}
 use Rattle.binary.specs.Number.{Bytes}

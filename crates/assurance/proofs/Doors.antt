@@ -30,7 +30,7 @@ use Rattle.image.specs.Image.{image_bytes, read_image}
 use Rattle.image.proofs.RoundTrips.{node-read-back}
 use Rattle.node_c.specs.Calls.{HandedBack, started, delivered, asked}
 use Rattle.agreement.specs.History.{Host, by_value, through_c, Call, start, deliver, query, checkpoint, History, Cluster, empty, Outcome}
-use Rattle.agreement.specs.History.{node_at, give, checkpoint_node, run, after}
+use Rattle.agreement.specs.History.{node_at, give, checkpoint_node, run}
 use Rattle.agreement.specs.Claims.{HoldsBytes, run_all}
 use Rattle.agreement.proofs.Calls.{leave, on_host, run-deliver, run-query, start_by, run-start, written-left}
 use Rattle.agreement.proofs.Steps.{always}

@@ -1,7 +1,7 @@
 -- Which proposals a deliver drops, and which it keeps.
 use mathlib.Core.Path.{◌≡◌, sym, ap, ◌∙◌, subst}
 use mathlib.Core.Logic.{◌≢◌}
-use mathlib.Core.Bool.{true, false, not, and-eq-true_iff, true≢false}
+use mathlib.Core.Bool.{false, not, and-eq-true_iff, true≢false}
 use mathlib.Core.List.{List}
 use Prim.Native.Nat.{ℕ, ◌-◌}
 use native.Mathlib.Omega.{arith}
@@ -17,7 +17,6 @@ use Rattle.state.specs.WellFormed.{are_well_formed_proposals, is_well_formed}
 use Rattle.tables.specs.Proposals.{proposals_full, add_proposal, is_lapsed, drop_lapsed}
 use Rattle.tables.proofs.Lapse.{lapsed-makes-room, lapsed-is-gone}
 use Rattle.records.specs.declared.Announcement.{Announcement}
-use Rattle.records.specs.declared.AnnouncementRead.TheVariants as A
 use Rattle.records.specs.declared.Action.TheVariants.{Propose, Grant}
 use Rattle.records.specs.Sheet.{level1, level2}
 use Rattle.rules.specs.Rules.{time_refusal, notice_refusal, check_refusal, action_refusal}

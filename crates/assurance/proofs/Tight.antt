@@ -12,7 +12,6 @@ use lib.ListN.{length, replicate}
 use borrow.Author.Tests.{eqb-true, leb-true, not-true}
 use Rattle.lists.specs.Fold.{all}
 use Rattle.lists.proofs.Tests.{all_below, passes-below}
-use Rattle.lists.proofs.Every as Every
 use Rattle.lists.proofs.Every.{All, all_of}
 use Rattle.state.specs.Time.{cycle}
 use Rattle.state.specs.Seats.{present_seats}

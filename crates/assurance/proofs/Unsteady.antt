@@ -6,7 +6,6 @@ use mathlib.Core.List.{[], ◌∷◌}
 use mathlib.Core.Option.{some}
 use Prim.Native.Nat.{ℕ}
 use Rattle.lists.specs.Fold.{all}
-use Rattle.lists.proofs.Every as Every
 use Rattle.checkpoint.specs.Checkpoint.{is_checkpoint}
 use Rattle.node.specs.declared.Node.{Node}
 use Rattle.node.specs.Start.{start_of}

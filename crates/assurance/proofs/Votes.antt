@@ -43,7 +43,7 @@ use Rattle.node.specs.WellFormed.{WellFormedNode}
 use Rattle.node_c.specs.Calls.{HandedBack, started, delivered, asked}
 use Rattle.node.proofs.WellFormedNodes.{start-makes-well-formed, deliver-keeps-well-formed, query-keeps-well-formed}
 use Rattle.agreement.specs.History.{Host, by_value, through_c, Call, start, deliver, query, checkpoint, History, Cluster, empty, Outcome}
-use Rattle.agreement.specs.History.{node_at, answers, run, Moment, moments_from, moments, answer, after}
+use Rattle.agreement.specs.History.{node_at, answers, run, Moment, moments_from, moments, after}
 use Rattle.agreement.specs.Claims.{◌∈◌, HoldsBytes, Park}
 use Rattle.agreement.proofs.Calls.{leave, on_host, run-deliver, run-query, Left, ran, written-left, start_by, run-start, start-refused, start-accepted}
 use Rattle.agreement.proofs.Calls.{Gave, run-checkpoint}

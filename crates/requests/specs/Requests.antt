@@ -16,7 +16,6 @@ use Rattle.node.specs.Query.{query_of}
 use Rattle.requests.specs.declared.Frame.{Frame}
 use Rattle.requests.specs.declared.Frame.TheVariants.{Record, Cut}
 use Rattle.requests.specs.declared.Answer.{Answer}
-use Rattle.requests.specs.declared.Answer.TheVariants as Answer
 use Rattle.requests.specs.declared.Step.{Step}
 use Rattle.requests.specs.Framing.{is_announcement, is_query, is_checkpoint_kind, is_sheet_kind, frame_of}
 

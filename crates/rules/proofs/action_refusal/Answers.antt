@@ -4,7 +4,6 @@ use Rattle.refusals.specs.Refusals.{lowest, ◌or_else◌}
 use Rattle.records.specs.Actions.{kind_of, level_of}
 use Rattle.rules.specs.Rules.{is_signed, trustee_refusal, check_refusal, action_refusal}
 use Rattle.rules.proofs.Judged.{judged, one-kind}
-use borrow.Author.Rules.{rules}
 use Rattle.rules.proofs.action_refusal.Goals.{After-notice_refusal-notice}
 use Rattle.rules.proofs.action_refusal.Goals as goal
 

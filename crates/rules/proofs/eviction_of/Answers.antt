@@ -2,7 +2,6 @@ use mathlib.Core.Path.{◌≡◌, sym, ap, ◌∙◌}
 use Rattle.records.specs.declared.Action.TheVariants.{Grant}
 use Rattle.records.specs.Actions.{kind_of}
 use Rattle.rules.proofs.CaseKinds.{other-case}
-use borrow.Author.Rules.{rules}
 use Rattle.rules.proofs.eviction_of.Goals as goal
 
 pub returns-in_default : goal.returns-in_default

@@ -1,5 +1,4 @@
 use Rattle.rules.specs.Rules.{notice_refusal}
-use borrow.Author.Rules.{rules}
 use Rattle.rules.proofs.notice_refusal.Goals as goal
 
 pub returns : goal.returns

@@ -1,6 +1,5 @@
 use mathlib.Core.Path.{sym, ◌∙◌}
 use Rattle.rules.specs.Rules.{time_refusal}
-use borrow.Author.Rules.{rules}
 use Rattle.rules.proofs.time_refusal.Goals as goal
 
 pub returns-then-is_before : goal.returns-then-is_before

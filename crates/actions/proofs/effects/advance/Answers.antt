@@ -2,7 +2,7 @@ use Prim.Native.Nat.{◌≤◌}
 use mathlib.Core.Path.{◌≡◌, ap, ◌∙◌}
 use mathlib.Core.List.{List}
 use native.Mathlib.Omega.{arith}
-use lib.ListN.{length, set}
+use lib.ListN.{length}
 use Rattle.lists.proofs.Tables.{mapped-length}
 use Rattle.state.specs.declared.Seat.{Seat}
 use Rattle.state.specs.declared.State.{State}
@@ -25,13 +25,13 @@ begins c =
     let x = c.args.a.action in
     let rows : length s.seats ≡ seat_count = search (rules, mapped-length) in
     elim c.if-at-lt-SEATS.branch [
-      then-at-lt-SEATS w ↦
-        w.out-is ∙ rw (c.next-out.ensures, c.minima_after-minima.ensures, w.seat_after.ensures, c.seat-at.ensures, c.requires.seats.1.1)
+      | then-at-lt-SEATS w ↦
+          w.out-is ∙ rw (c.next-out.ensures, c.minima_after-minima.ensures, w.seat_after.ensures, c.seat-at.ensures, c.requires.seats.1.1)
       | else-at-lt-SEATS w ↦
-        let beyond : length s.seats ≤ seat_of x = omega (arith, rows, w.if-at-lt-SEATS.false, c.seat-at.ensures) in
-        w.out-is ∙ rw (c.next-out.ensures, c.minima_after-minima.ensures)
-            (ap (λ (seats : List Seat). with (next_cycle s.cycle) d (minima_after s.minima x) seats s.proposals s.logins s)
-            (unset s d (seat_of x) _ beyond))
+          let beyond : length s.seats ≤ seat_of x = omega (arith, rows, w.if-at-lt-SEATS.false, c.seat-at.ensures) in
+          w.out-is ∙ rw (c.next-out.ensures, c.minima_after-minima.ensures)
+          (ap (λ (seats : List Seat). with (next_cycle s.cycle) d (minima_after s.minima x) seats s.proposals s.logins s)
+          (unset s d (seat_of x) _ beyond))
     ]
 
 pub grant_login-next-requires : goal.grant_login-next-requires

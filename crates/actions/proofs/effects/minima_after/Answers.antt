@@ -1,4 +1,3 @@
-use borrow.Author.Rules.{rules}
 use Rattle.actions.proofs.effects.minima_after.Goals as goal
 
 pub returns-in-Minima : goal.returns-in-Minima

@@ -1,4 +1,3 @@
-use borrow.Author.Rules.{rules}
 use Rattle.actions.proofs.effects.proposals_after.Goals as goal
 
 pub returns-in-Propose : goal.returns-in-Propose

@@ -1,4 +1,3 @@
-use borrow.Author.Rules.{rules}
 use Rattle.actions.proofs.effects.seat_after.Goals as goal
 
 pub returns-in-Presents : goal.returns-in-Presents

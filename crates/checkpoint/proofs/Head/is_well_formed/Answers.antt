@@ -1,5 +1,4 @@
 use Rattle.checkpoint.specs.Code.{is_head}
-use borrow.Author.Rules.{rules}
 use Rattle.checkpoint.proofs.Head.is_well_formed.Goals as goal
 
 pub returns : goal.returns

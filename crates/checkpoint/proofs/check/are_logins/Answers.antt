@@ -6,7 +6,6 @@ use Rattle.state.specs.Rows.{is_login}
 use Rattle.state.specs.WellFormed.{has_rights, is_blank_login, are_well_formed_logins}
 use Rattle.checkpoint.specs.Format.{login}
 use Rattle.checkpoint.specs.Code.{are_logins}
-use borrow.Author.Rules.{rules}
 use Rattle.checkpoint.proofs.check.are_logins.Goals as goal
 
 pub returns : goal.returns

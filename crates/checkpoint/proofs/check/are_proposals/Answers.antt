@@ -6,7 +6,6 @@ use Rattle.state.specs.Rows.{is_proposal}
 use Rattle.state.specs.WellFormed.{cycle_of, is_intended, is_blank_proposal, are_well_formed_proposals}
 use Rattle.checkpoint.specs.Format.{proposal}
 use Rattle.checkpoint.specs.Code.{are_proposals}
-use borrow.Author.Rules.{rules}
 use Rattle.checkpoint.proofs.check.are_proposals.Goals as goal
 
 pub returns : goal.returns

@@ -1,5 +1,4 @@
 use Rattle.checkpoint.specs.Code.{are_seats}
-use borrow.Author.Rules.{rules}
 use Rattle.checkpoint.proofs.check.are_seats.Goals as goal
 
 pub returns : goal.returns

@@ -1,7 +1,6 @@
 use mathlib.Core.Path.{sym, ◌∙◌}
 use Rattle.binary.proofs.Zeros.{rows-zero}
 use Rattle.state.specs.Limits.{login_rows}
-use borrow.Author.Rules.{rules}
 use Rattle.checkpoint.proofs.Spares.{zero-login}
 use Rattle.checkpoint.proofs.check.are_zero_logins.Goals as goal
 

@@ -1,7 +1,6 @@
 use mathlib.Core.Path.{sym, ◌∙◌}
 use Rattle.binary.proofs.Zeros.{rows-zero}
 use Rattle.state.specs.Limits.{proposal_rows}
-use borrow.Author.Rules.{rules}
 use Rattle.checkpoint.proofs.Spares.{zero-proposal}
 use Rattle.checkpoint.proofs.check.are_zero_proposals.Goals as goal
 

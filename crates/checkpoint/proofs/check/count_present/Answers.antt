@@ -1,16 +1,13 @@
-use Prim.Native.Nat.{◌+◌, ◌-◌, ◌≤◌, ◌<◌}
-use mathlib.Core.Path.{◌≡◌, ◌∙◌}
-use mathlib.Core.Logic.{⊎_elim}
+use Prim.Native.Nat.{◌≤◌, ◌<◌}
+use mathlib.Core.Path.{◌∙◌}
 use native.Mathlib.Omega.{arith}
-use lib.ListN.{length, drop}
-use Rattle.lists.specs.Fold.{count}
+use lib.ListN.{length}
 use Rattle.lists.proofs.Loops.{count-pass, count-fail, count-end}
 use Rattle.binary.specs.Codec.{decode_rows}
 use Rattle.binary.proofs.Rows.{row-test, length-decode_rows}
 use Rattle.state.specs.Limits.{seat_count}
 use Rattle.state.specs.Seats.{free_seat, is_present, present_seats}
 use Rattle.checkpoint.specs.Format.{seat}
-use borrow.Author.Rules.{rules}
 use Rattle.checkpoint.proofs.check.count_present.Goals.{else-is_present, then-is_present}
 use Rattle.checkpoint.proofs.check.count_present.Goals as goal
 

@@ -2,7 +2,6 @@ use Rattle.binary.proofs.Slices.{part-from}
 use Rattle.checkpoint.specs.Layout.{proposals_at, logins_at}
 use Rattle.checkpoint.specs.Code.{is_body}
 use Rattle.checkpoint.proofs.Fields.{parts_at}
-use borrow.Author.Rules.{rules}
 use Rattle.checkpoint.proofs.check.is_body.Goals as goal
 
 pub returns : goal.returns

@@ -1,5 +1,4 @@
 use Rattle.checkpoint.specs.Checkpoint.{is_checkpoint}
-use borrow.Author.Rules.{rules}
 use Rattle.checkpoint.proofs.check.is_checkpoint.Goals as goal
 
 pub returns : goal.returns

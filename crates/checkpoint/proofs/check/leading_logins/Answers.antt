@@ -1,9 +1,5 @@
-use Prim.Native.Nat.{◌+◌, ◌-◌, ◌≤◌}
-use mathlib.Core.Path.{◌≡◌}
 use native.Mathlib.Omega.{arith}
-use lib.ListN.{drop}
-use Rattle.lists.specs.Code.{is_filled, leading}
-use Rattle.binary.specs.Codec.{decode_rows}
+use Rattle.lists.specs.Code.{is_filled}
 use Rattle.binary.proofs.Rows.{lead-row, last_row, no_lead}
 use Rattle.state.specs.Limits.{login_rows}
 use Rattle.state.specs.Rows.{no_login, is_login}

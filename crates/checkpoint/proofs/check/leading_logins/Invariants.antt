@@ -1,15 +1,12 @@
 use Prim.Native.Nat.{◌+◌, ◌-◌, ◌≤◌}
 use mathlib.Core.Path.{◌≡◌}
-use native.Mathlib.Omega.{arith}
 use lib.ListN.{drop}
 use Rattle.lists.specs.Code.{is_filled, leading}
 use Rattle.binary.specs.Codec.{decode_rows}
-use Rattle.binary.proofs.Rows.{lead-row, last_row, no_lead}
 use Rattle.state.specs.Limits.{login_rows}
-use Rattle.state.specs.Rows.{no_login, is_login}
+use Rattle.state.specs.Rows.{is_login}
 use Rattle.state.specs.WellFormed.{has_rights}
 use Rattle.checkpoint.specs.Format.{login}
-use borrow.Author.Rules.{rules}
 use Rattle.checkpoint.proofs.check.leading_logins.Given as goal
 
 abbrev pub invariant-loop-i : goal.invariant-loop-i

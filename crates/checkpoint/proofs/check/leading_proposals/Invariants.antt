@@ -1,15 +1,12 @@
 use Prim.Native.Nat.{◌+◌, ◌-◌, ◌≤◌}
 use mathlib.Core.Path.{◌≡◌}
-use native.Mathlib.Omega.{arith}
 use lib.ListN.{drop}
 use Rattle.lists.specs.Code.{is_filled, leading}
 use Rattle.binary.specs.Codec.{decode_rows}
-use Rattle.binary.proofs.Rows.{lead-row, last_row, no_lead}
 use Rattle.state.specs.Limits.{proposal_rows}
-use Rattle.state.specs.Rows.{no_proposal, is_proposal}
+use Rattle.state.specs.Rows.{is_proposal}
 use Rattle.state.specs.WellFormed.{is_intended, cycle_of}
 use Rattle.checkpoint.specs.Format.{proposal}
-use borrow.Author.Rules.{rules}
 use Rattle.checkpoint.proofs.check.leading_proposals.Given as goal
 
 abbrev pub invariant-loop-i : goal.invariant-loop-i

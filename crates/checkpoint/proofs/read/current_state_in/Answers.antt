@@ -2,7 +2,6 @@ use Rattle.binary.proofs.Slices.{part-from}
 use Rattle.checkpoint.specs.Layout.{tables_at}
 use Rattle.checkpoint.specs.Format.{current}
 use Rattle.checkpoint.proofs.Fields.{decoded-as, head-noticed}
-use borrow.Author.Rules.{rules}
 use Rattle.checkpoint.proofs.read.current_state_in.Goals as goal
 
 pub returns : goal.returns

@@ -2,7 +2,6 @@ use lib.ListN.{drop}
 use Rattle.checkpoint.specs.Layout.{tables_at}
 use Rattle.checkpoint.specs.Format.{current}
 use Rattle.checkpoint.proofs.Fields.{decoded-as, parts_at}
-use borrow.Author.Rules.{rules}
 use Rattle.checkpoint.proofs.read.cycle_in.Goals as goal
 
 pub returns : goal.returns

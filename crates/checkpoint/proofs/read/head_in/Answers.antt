@@ -1,5 +1,4 @@
 use Rattle.checkpoint.proofs.Fields.{head_at_lem}
-use borrow.Author.Rules.{rules}
 use Rattle.checkpoint.proofs.read.head_in.Goals as goal
 
 pub returns : goal.returns

@@ -1,5 +1,4 @@
 use lib.Seq.{drop-drop}
-use borrow.Author.Rules.{rules}
 use Rattle.checkpoint.proofs.read.login_at.Goals as goal
 
 pub returns : goal.returns

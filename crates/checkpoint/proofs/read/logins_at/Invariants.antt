@@ -1,8 +1,6 @@
 use Prim.Native.Nat.{◌-◌}
-use mathlib.Core.Path.{refl}
-use native.Mathlib.Omega.{arith}
 use lib.ListN.{drop}
-use Rattle.binary.proofs.Rows.{RowsRead, read_none, read_one, read_all}
+use Rattle.binary.proofs.Rows.{RowsRead}
 use Rattle.state.specs.Limits.{login_rows}
 use Rattle.checkpoint.specs.Format.{login}
 use Rattle.checkpoint.proofs.read.logins_at.Given as goal

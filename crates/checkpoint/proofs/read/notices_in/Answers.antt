@@ -1,5 +1,4 @@
 use lib.Seq.{get_or-drop}
-use borrow.Author.Rules.{rules}
 use Rattle.checkpoint.proofs.read.notices_in.Goals as goal
 
 pub returns : goal.returns

@@ -1,8 +1,6 @@
 use Prim.Native.Nat.{◌-◌}
-use mathlib.Core.Path.{refl}
-use native.Mathlib.Omega.{arith}
 use lib.ListN.{drop}
-use Rattle.binary.proofs.Rows.{RowsRead, read_none, read_one, read_all}
+use Rattle.binary.proofs.Rows.{RowsRead}
 use Rattle.state.specs.Limits.{proposal_rows}
 use Rattle.checkpoint.specs.Format.{proposal}
 use Rattle.checkpoint.proofs.read.proposals_at.Given as goal

@@ -1,6 +1,5 @@
 use native.Mathlib.Nat.{add-zero}
 use lib.Seq.{get_or-drop, drop-drop}
-use borrow.Author.Rules.{rules}
 use Rattle.checkpoint.proofs.read.seat_at.Goals as goal
 
 pub returns : goal.returns

@@ -1,8 +1,6 @@
-use Prim.Native.Nat.{◌-◌}
 use mathlib.Core.Path.{refl}
 use native.Mathlib.Omega.{arith}
-use lib.ListN.{drop}
-use Rattle.binary.proofs.Rows.{RowsRead, read_none, read_one, read_all}
+use Rattle.binary.proofs.Rows.{read_none, read_one, read_all}
 use Rattle.state.specs.Limits.{seat_count}
 use Rattle.checkpoint.specs.Format.{seat}
 use Rattle.checkpoint.proofs.read.seats_at.Goals as goal

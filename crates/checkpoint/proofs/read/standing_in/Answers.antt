@@ -1,6 +1,5 @@
 use mathlib.Core.Path.{sym}
 use Rattle.checkpoint.proofs.Fields.{standing-at, no-standing}
-use borrow.Author.Rules.{rules}
 use Rattle.checkpoint.proofs.read.standing_in.Goals as goal
 
 pub returns-then-at-ge-SEATS : goal.returns-then-at-ge-SEATS

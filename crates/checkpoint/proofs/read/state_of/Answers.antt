@@ -1,5 +1,4 @@
 use Rattle.checkpoint.proofs.Fields.{parts_at}
-use borrow.Author.Rules.{rules}
 use Rattle.checkpoint.proofs.read.state_of.Goals as goal
 
 pub returns : goal.returns

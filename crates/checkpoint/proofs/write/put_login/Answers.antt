@@ -2,7 +2,6 @@ use mathlib.Core.Path.{refl}
 use native.Mathlib.Omega.{arith}
 use Rattle.binary.specs.Number.{to_bytes}
 use Rattle.binary.proofs.Splices.{then-put}
-use borrow.Author.Rules.{rules}
 use Rattle.checkpoint.proofs.write.put_login.Goals as goal
 
 pub returns : goal.returns

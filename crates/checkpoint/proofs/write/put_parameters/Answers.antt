@@ -3,7 +3,6 @@ use native.Mathlib.Omega.{arith}
 use Rattle.binary.specs.Number.{to_bytes}
 use Rattle.binary.proofs.Splices.{then-put}
 use Rattle.checkpoint.specs.Code.{parameter_bytes}
-use borrow.Author.Rules.{rules}
 use Rattle.checkpoint.proofs.write.put_parameters.Goals as goal
 
 pub returns : goal.returns

@@ -1,7 +1,6 @@
 use borrow.Author.Rules.{rules}
-use Prim.Native.Nat.{◌-◌}
 use native.Mathlib.Omega.{arith}
-use Rattle.binary.proofs.Rows.{RowsWritten, written_none, written_one, written_all}
+use Rattle.binary.proofs.Rows.{written_none, written_one, written_all}
 use Rattle.state.specs.Limits.{proposal_rows}
 use Rattle.checkpoint.specs.Format.{proposal}
 use Rattle.checkpoint.proofs.Written.{proposal-size}

@@ -1,7 +1,6 @@
 use mathlib.Core.Path.{refl}
 use native.Mathlib.Omega.{arith}
 use Rattle.binary.proofs.Splices.{then-put}
-use borrow.Author.Rules.{rules}
 use Rattle.checkpoint.proofs.write.put_seat.Goals as goal
 
 pub returns : goal.returns

@@ -5,7 +5,6 @@ use Rattle.binary.proofs.Splices.{then-put, first-put, next-put, splice-overwrit
 use Rattle.checkpoint.specs.Layout.{tables_at}
 use Rattle.checkpoint.specs.Code.{parameters_at}
 use Rattle.checkpoint.proofs.Written.{time-size, parameter-size, parts-joined}
-use borrow.Author.Rules.{rules}
 use Rattle.checkpoint.proofs.write.write_checkpoint.Goals as goal
 
 pub returns : goal.returns

@@ -1,6 +1,5 @@
 use mathlib.Core.Path.{sym}
 use Rattle.image.proofs.OwnParts.{counts-at}
-use borrow.Author.Rules.{rules}
 use Rattle.image.proofs.read.counts_in.Goals as goal
 
 pub returns : goal.returns

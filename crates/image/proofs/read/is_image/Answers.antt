@@ -4,7 +4,6 @@ use borrow.Author.Tests.{eq-eqb, ne_eqb}
 use Rattle.verdicts.specs.Attempts.{are_in_range}
 use Rattle.image.specs.Image.{decode_image, is_image}
 use Rattle.image.proofs.OwnParts.{image-tested}
-use borrow.Author.Rules.{rules}
 use Rattle.image.proofs.read.is_image.Goals as goal
 
 pub returns-then-b-ne-IMAGE_SIZE : goal.returns-then-b-ne-IMAGE_SIZE

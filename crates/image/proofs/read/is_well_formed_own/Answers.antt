@@ -1,6 +1,5 @@
 use mathlib.Core.Path.{sym}
 use Rattle.image.proofs.OwnParts.{own-tested}
-use borrow.Author.Rules.{rules}
 use Rattle.image.proofs.read.is_well_formed_own.Goals as goal
 
 pub returns : goal.returns

@@ -1,7 +1,6 @@
 use mathlib.Core.Path.{sym, ◌∙◌}
 use Rattle.binary.specs.Number.{is_zero_from}
 use Rattle.node.specs.WellFormed.{is_well_formed_vote}
-use borrow.Author.Rules.{rules}
 use Rattle.image.proofs.read.is_well_formed_vote.Goals as goal
 
 pub returns-in-Read : goal.returns-in-Read

@@ -1,5 +1,4 @@
 use Rattle.image.specs.Image.{decode_image}
-use borrow.Author.Rules.{rules}
 use Rattle.image.proofs.read.node_in.Goals as goal
 
 pub returns : goal.returns

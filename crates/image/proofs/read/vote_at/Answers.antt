@@ -1,12 +1,10 @@
 use Rattle.records.specs.Layout.{announcement_size}
-use Prim.Native.Nat.{◌-◌}
 use native.Mathlib.Nat.{add-zero, mul-one}
 use mathlib.Core.Path.{refl}
 use native.Mathlib.Omega.{arith}
-use lib.ListN.{drop}
 use lib.Seq.{get_or-drop}
 use Rattle.binary.specs.Codec.{byte}
-use Rattle.binary.proofs.Rows.{RowsRead, read_none, read_one, read_all}
+use Rattle.binary.proofs.Rows.{read_none, read_one, read_all}
 use Rattle.image.proofs.read.vote_at.Goals as goal
 
 pub loop-i-init : goal.loop-i-init

@@ -1,12 +1,8 @@
 use Rattle.records.specs.Layout.{announcement_size}
 use Prim.Native.Nat.{◌-◌}
-use native.Mathlib.Nat.{add-zero, mul-one}
-use mathlib.Core.Path.{refl}
-use native.Mathlib.Omega.{arith}
 use lib.ListN.{drop}
-use lib.Seq.{get_or-drop}
 use Rattle.binary.specs.Codec.{byte}
-use Rattle.binary.proofs.Rows.{RowsRead, read_none, read_one, read_all}
+use Rattle.binary.proofs.Rows.{RowsRead}
 use Rattle.image.proofs.read.vote_at.Given as goal
 
 abbrev pub invariant-loop-i : goal.invariant-loop-i

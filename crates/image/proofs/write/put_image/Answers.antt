@@ -2,7 +2,6 @@ use Rattle.image.specs.Layout.{own_at}
 use native.Mathlib.Omega.{arith}
 use mathlib.Core.Path.{◌∙◌}
 use Rattle.binary.proofs.Splices.{then-put, splice-overwrite}
-use borrow.Author.Rules.{rules}
 use Rattle.image.proofs.write.put_image.Goals as goal
 
 pub returns : goal.returns

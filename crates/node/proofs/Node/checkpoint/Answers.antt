@@ -1,7 +1,6 @@
 use Rattle.checkpoint.specs.Layout.{checkpoint_size}
 use borrow.Author.Tests.{le-leb, lt-leb}
 use Rattle.node.specs.Checkpoint.{checkpoint_of, checkpoint_slice}
-use borrow.Author.Rules.{rules}
 use Rattle.node.proofs.Node.checkpoint.Goals as goal
 
 pub returns-then-out-lt-CHECKPOINT_SIZE : goal.returns-then-out-lt-CHECKPOINT_SIZE

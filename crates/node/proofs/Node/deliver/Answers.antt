@@ -1,10 +1,8 @@
 use mathlib.Core.Path.{◌≡◌, sym, ap, ◌∙◌}
 use mathlib.Core.Bool.{true}
 use mathlib.Core.List.{List}
-use mathlib.Core.Logic.{⊎_elim}
 use native.Mathlib.Omega.{arith}
 use lib.ListN.{length, get_or-eq_default}
-use borrow.Author.Tests.{not-true, not-false}
 use Rattle.state.specs.declared.Proposal.{Proposal}
 use Rattle.state.specs.declared.State.{State}
 use Rattle.lists.proofs.Tables.{mapped-length}
@@ -50,9 +48,9 @@ sees c =
     let with_rows : List Proposal → State = λ rows. with_proposals rows n.state in
     let rows : length n.state.proposals ≡ proposal_rows = search (rules, mapped-length) in
     elim c.if-has_lapsed.branch [
-      then-has_lapsed w ↦ w.seen-is ∙ ap with_rows w.drop_lapsed-kept.ensures
+      | then-has_lapsed w ↦ w.seen-is ∙ ap with_rows w.drop_lapsed-kept.ensures
       | else-has_lapsed w ↦
-        w.seen-is ∙ ap with_rows (sym (none-lapsed d n.state.proposals rows (sym c.has_lapsed.ensures ∙ w.if-has_lapsed.false)))
+          w.seen-is ∙ ap with_rows (sym (none-lapsed d n.state.proposals rows (sym c.has_lapsed.ensures ∙ w.if-has_lapsed.false)))
     ]
 
 -- the own seat, as it is looked up
@@ -60,9 +58,9 @@ held : (c : Joined-at-lt-SEATS) → c.if-at-lt-SEATS.held ≡ seat_at c.args.sel
 held c =
     let rows : length c.if-has_lapsed.seen.seats ≡ seat_count = search (rules, mapped-length) in
     elim c.if-at-lt-SEATS.branch [
-      then-at-lt-SEATS w ↦ w.held-is
+      | then-at-lt-SEATS w ↦ w.held-is
       | else-at-lt-SEATS w ↦
-        w.held-is ∙ sym (get_or-eq_default c.if-has_lapsed.seen.seats _ {n = c.args.self.own.seat} (omega (arith, w.if-at-lt-SEATS.false, rows)))
+          w.held-is ∙ sym (get_or-eq_default c.if-has_lapsed.seen.seats _ {n = c.args.self.own.seat} (omega (arith, w.if-at-lt-SEATS.false, rows)))
     ]
 
 pub deliver_refusal-k-requires : goal.deliver_refusal-k-requires

@@ -1,7 +1,6 @@
 use mathlib.Core.Path.{◌∙◌}
 use borrow.Author.Tests.{le-leb, lt-leb}
 use Rattle.node.specs.Page.{page_of, page_slice}
-use borrow.Author.Rules.{rules}
 use Rattle.node.proofs.Node.page.Goals as goal
 
 pub returns-then-out-size : goal.returns-then-out-size

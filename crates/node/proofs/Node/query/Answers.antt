@@ -1,5 +1,4 @@
 use Rattle.node.specs.Query.{query_of}
-use borrow.Author.Rules.{rules}
 use Rattle.node.proofs.Node.query.Goals as goal
 
 pub returns : goal.returns

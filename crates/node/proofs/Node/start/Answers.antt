@@ -1,7 +1,6 @@
 use mathlib.Core.Path.{sym, ◌∙◌}
 use Rattle.checkpoint.proofs.Fields.{read_ok}
 use Rattle.node.specs.Start.{start_of}
-use borrow.Author.Rules.{rules}
 use Rattle.node.proofs.Node.start.Goals as goal
 
 pub returns-in_default : goal.returns-in_default

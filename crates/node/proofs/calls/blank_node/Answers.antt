@@ -1,5 +1,4 @@
 use Rattle.node.specs.Start.{blank_node}
-use borrow.Author.Rules.{rules}
 use Rattle.node.proofs.calls.blank_node.Goals as goal
 
 pub returns : goal.returns

@@ -1,6 +1,5 @@
 use borrow.Author.Tests.{eq-eqb, ne_eqb}
 use Rattle.node.specs.Start.{start_read}
-use borrow.Author.Rules.{rules}
 use Rattle.node.proofs.calls.start_read.Goals as goal
 
 pub returns-then-k-ne0 : goal.returns-then-k-ne0

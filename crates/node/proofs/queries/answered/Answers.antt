@@ -2,7 +2,6 @@ use borrow.Author.Tests.{eq-eqb, ne_eqb}
 use mathlib.Core.Path.{sym, ◌∙◌}
 use native.Mathlib.Omega.{arith}
 use Rattle.node.specs.Query.{answered}
-use borrow.Author.Rules.{rules}
 use Rattle.node.proofs.queries.answered.Goals as goal
 
 pub returns-then-number-eq0 : goal.returns-then-number-eq0

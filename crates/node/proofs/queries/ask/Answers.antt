@@ -5,7 +5,6 @@ use Rattle.records.specs.StartQuery.{read_query}
 use Rattle.node.specs.declared.Node.{Node}
 use Rattle.node.specs.Query.{ask_of}
 use Rattle.node.proofs.Query.{Why, why, adds-from}
-use borrow.Author.Rules.{rules}
 use Rattle.node.proofs.queries.ask.Goals.{In-Read}
 use Rattle.node.proofs.queries.ask.Goals as goal
 

@@ -5,7 +5,6 @@ use lib.ListN.{length}
 use borrow.Author.Tests.{leb-true}
 use Rattle.node_c.specs.Calls.{writes_image}
 use Rattle.node_c.proofs.Calls.{writes-in-room}
-use borrow.Author.Rules.{rules}
 use Rattle.node_c.proofs.entries.hand_on.Goals as goal
 
 pub put_image-requires : goal.put_image-requires
@@ -16,8 +15,11 @@ put_image-requires c =
 
 pub returns-then-writes_image : goal.returns-then-writes_image
 returns-then-writes_image c =
-    record { value = c.try_room-number.ensures; out_after = rw (sym c.writes_image.ensures ∙ c.if-writes_image.true)
-          c.put_image.ensures }
+    record {
+      value = c.try_room-number.ensures;
+      out_after = rw (sym c.writes_image.ensures ∙ c.if-writes_image.true)
+          c.put_image.ensures;
+    }
 
 pub returns : goal.returns
 returns c = record { value = c.try_room-number.ensures; out_after = rw (sym c.writes_image.ensures ∙ c.if-writes_image.false) }

@@ -1,7 +1,6 @@
 use Rattle.image.specs.Layout.{image_size}
 use borrow.Author.Tests.{lt-leb, le-leb}
 use Rattle.node_c.specs.Calls.{return}
-use borrow.Author.Rules.{rules}
 use Rattle.node_c.proofs.entries.hand_out.Goals as goal
 
 pub returns-then-out-lt-IMAGE_SIZE : goal.returns-then-out-lt-IMAGE_SIZE

@@ -4,7 +4,6 @@ use mathlib.Core.Path.{◌≡◌, sym, ◌∙◌}
 use Rattle.node_c.specs.Calls.{node_checkpoint}
 use Rattle.image.specs.Image.{is_image, read_image}
 use Rattle.image.proofs.RoundTrips.{image-size}
-use borrow.Author.Rules.{rules}
 use Rattle.node_c.proofs.entries.node_checkpoint.Goals.{Then-is_image}
 use Rattle.node_c.proofs.entries.node_checkpoint.Goals as goal
 
@@ -17,8 +16,11 @@ node_in-held-requires c = omega (arith, image-size _ (accepted (goal.at.node_in-
 pub returns-then-is_image : goal.returns-then-is_image
 unfolding node_checkpoint read_image
 returns-then-is_image c =
-    let e = accepted (goal.at.returns-then-is_image c).Then-is_image in record { value = rw (e, ← c.node_in-held.ensures, ← c.checkpoint-r.ensures.value) c.checkpoint_number.ensures; out_after = rw (e, ← c.node_in-held.ensures)
-          c.checkpoint-r.ensures.out_after }
+    let e = accepted (goal.at.returns-then-is_image c).Then-is_image in record {
+      value = rw (e, ← c.node_in-held.ensures, ← c.checkpoint-r.ensures.value) c.checkpoint_number.ensures;
+      out_after = rw (e, ← c.node_in-held.ensures)
+          c.checkpoint-r.ensures.out_after;
+    }
 
 pub returns : goal.returns
 unfolding node_checkpoint read_image

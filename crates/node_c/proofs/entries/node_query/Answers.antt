@@ -10,7 +10,6 @@ use Rattle.node_c.specs.Calls.{node_query, on_image}
 use Rattle.image.specs.Image.{is_image, read_image}
 use Rattle.image.proofs.RoundTrips.{image-size, image-state}
 use Rattle.node_c.proofs.Kept.{handed-on, on-image}
-use borrow.Author.Rules.{rules}
 use Rattle.node_c.proofs.entries.node_query.Goals.{After-query-r, Then-is_image}
 use Rattle.node_c.proofs.entries.node_query.Goals as goal
 
@@ -35,7 +34,7 @@ returns-then-is_image c =
     let is_one = accepted (goal.at.returns-then-is_image c).Then-is_image in
     let bytes : Bytes c.args.image.now = λ i. omega (arith, c.type_inv.image i) in
     let handed =
-        handed-on _ _ _ (λ _. kept (goal.at.returns-then-is_image c).After-query-r bytes) _ _ (c.hand_on.ensures.value, c.hand_on.ensures.out_after) in
+    handed-on _ _ _ (λ _. kept (goal.at.returns-then-is_image c).After-query-r bytes) _ _ (c.hand_on.ensures.value, c.hand_on.ensures.out_after) in
     record {
       value = rw (on-image _ _ _ is_one, ← c.node_in-held.ensures, ← c.query-r.ensures, ← c.query_number.ensures) handed.0;
       out_after = rw (on-image _ _ _ is_one, ← c.node_in-held.ensures, ← c.query-r.ensures, ← c.query_number.ensures) handed.1;

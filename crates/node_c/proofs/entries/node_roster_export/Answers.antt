@@ -1,5 +1,4 @@
 use Rattle.node_c.specs.Calls.{node_roster_export}
-use borrow.Author.Rules.{rules}
 use Rattle.node_c.proofs.entries.node_roster_export.Goals as goal
 
 pub returns : goal.returns

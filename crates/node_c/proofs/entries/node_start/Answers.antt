@@ -1,7 +1,6 @@
 use mathlib.Core.Path.{sym}
 use Rattle.node_c.specs.Calls.{node_start, return}
 use Rattle.node_c.proofs.Kept.{start-leaves}
-use borrow.Author.Rules.{rules}
 use Rattle.node_c.proofs.entries.node_start.Goals as goal
 
 pub returns-then-number-eq0 : goal.returns-then-number-eq0

@@ -1,4 +1,3 @@
-use borrow.Author.Rules.{rules}
 use Rattle.node_c.proofs.entries.roster_number.Goals as goal
 
 pub returns-in-Given : goal.returns-in-Given

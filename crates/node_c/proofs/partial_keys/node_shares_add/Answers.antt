@@ -1,5 +1,4 @@
 use Rattle.node_c.specs.Calls.{node_shares_add}
-use borrow.Author.Rules.{rules}
 use Rattle.node_c.proofs.partial_keys.node_shares_add.Goals as goal
 
 pub returns : goal.returns

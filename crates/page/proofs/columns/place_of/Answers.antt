@@ -1,5 +1,4 @@
 use mathlib.Core.Path.{sym, ◌∙◌}
-use borrow.Author.Rules.{rules}
 use Rattle.page.proofs.columns.place_of.Goals as goal
 
 pub returns-then-is_held : goal.returns-then-is_held

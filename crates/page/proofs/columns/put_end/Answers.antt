@@ -5,7 +5,6 @@ use mathlib.Core.Option.{some}
 use borrow.Author.Tests.{lt-ltb, le-ltb}
 use Rattle.binary.proofs.Splices.{then-put}
 use Rattle.page.proofs.ReadBack.{end_back}
-use borrow.Author.Rules.{rules}
 use Rattle.page.proofs.columns.put_end.Goals as goal
 
 pub returns-then-end-gt-LAST_DAY : goal.returns-then-end-gt-LAST_DAY

@@ -3,7 +3,6 @@ use native.Mathlib.Omega.{arith}
 use mathlib.Core.Path.{ap}
 use Rattle.binary.proofs.Splices.{then-put}
 use Rattle.page.proofs.ReadBack.{login-back}
-use borrow.Author.Rules.{rules}
 use Rattle.page.proofs.columns.put_login.Goals as goal
 
 pub returns : goal.returns

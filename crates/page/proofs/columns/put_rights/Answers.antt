@@ -1,12 +1,11 @@
-use Prim.Native.Nat.{ℕ, ◌+◌, ◌-◌}
+use Prim.Native.Nat.{ℕ, ◌+◌}
 use native.Mathlib.Omega.{arith}
 use mathlib.Core.Path.{sym, ap, ◌∙◌}
-use Rattle.binary.proofs.Copies.{Copied, copied_none, copied-one, copied_all}
+use Rattle.binary.proofs.Copies.{copied_none, copied-one, copied_all}
 use Rattle.binary.proofs.Splices.{then-put}
 use Rattle.state.specs.Limits.{right_count}
 use Rattle.page.specs.Line.{places}
 use Rattle.page.proofs.Places.{length-places, place-of-right}
-use borrow.Author.Rules.{rules}
 use Rattle.page.proofs.columns.put_rights.Goals as goal
 
 pub loop-i-init : goal.loop-i-init

@@ -1,12 +1,7 @@
-use Prim.Native.Nat.{ℕ, ◌+◌, ◌-◌}
-use native.Mathlib.Omega.{arith}
-use mathlib.Core.Path.{sym, ap, ◌∙◌}
-use Rattle.binary.proofs.Copies.{Copied, copied_none, copied-one, copied_all}
-use Rattle.binary.proofs.Splices.{then-put}
+use Prim.Native.Nat.{◌-◌}
+use Rattle.binary.proofs.Copies.{Copied}
 use Rattle.state.specs.Limits.{right_count}
 use Rattle.page.specs.Line.{places}
-use Rattle.page.proofs.Places.{length-places, place-of-right}
-use borrow.Author.Rules.{rules}
 use Rattle.page.proofs.columns.put_rights.Given as goal
 
 abbrev pub invariant-loop-i : goal.invariant-loop-i

@@ -1,4 +1,3 @@
-use borrow.Author.Rules.{rules}
 use Rattle.page.proofs.columns.put_word.Goals as goal
 
 pub returns-in-Open : goal.returns-in-Open

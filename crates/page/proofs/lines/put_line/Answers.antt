@@ -8,7 +8,6 @@ use Rattle.page.specs.Line.{login_column, end_column, rights_column, word_column
 use Rattle.page.specs.Page.{end_shown, word_of}
 use Rattle.page.proofs.ReadBack.{login-back, end_back, rights-back, then-back}
 use Rattle.page.proofs.Rows.{end_fits}
-use borrow.Author.Rules.{rules}
 use Rattle.page.proofs.lines.put_line.Goals as goal
 
 pub returns : goal.returns

@@ -1,12 +1,10 @@
 use native.Mathlib.Omega.{arith}
 use mathlib.Core.Path.{sym, ◌∙◌}
-use borrow.Author.Tests.{not-true, not-false}
 use native.Mathlib.Nat.{add-zero}
 use Rattle.page.specs.Page.{line_of}
 use Rattle.binary.proofs.Splices.{splice-none}
 use Rattle.page.proofs.ReadBack.{line-back}
 use Rattle.page.proofs.Rows.{line-fits, used-row, unused-row, one_line, no_line}
-use borrow.Author.Rules.{rules}
 use Rattle.page.proofs.lines.put_row.Goals as goal
 
 pub returns-then-not-is_used : goal.returns-then-not-is_used

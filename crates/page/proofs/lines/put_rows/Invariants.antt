@@ -1,7 +1,6 @@
 use Prim.Native.Nat.{◌-◌}
-use native.Mathlib.Omega.{arith}
 use Rattle.state.specs.Limits.{login_rows}
-use Rattle.page.proofs.Rows.{LinesWritten, written_none, room-for-row, written_one, written_all}
+use Rattle.page.proofs.Rows.{LinesWritten}
 use Rattle.page.proofs.lines.put_rows.Given as goal
 
 abbrev pub invariant-loop-i : goal.invariant-loop-i

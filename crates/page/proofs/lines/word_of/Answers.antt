@@ -1,5 +1,4 @@
 use mathlib.Core.Path.{sym, ◌∙◌}
-use borrow.Author.Rules.{rules}
 use Rattle.page.proofs.lines.word_of.Goals as goal
 
 pub returns-then-is_ended : goal.returns-then-is_ended

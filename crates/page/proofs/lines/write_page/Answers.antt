@@ -1,5 +1,4 @@
 use Rattle.page.specs.Page.{page_text}
-use borrow.Author.Rules.{rules}
 use Rattle.page.proofs.lines.write_page.Goals as goal
 
 pub returns : goal.returns

@@ -1,4 +1,3 @@
-use borrow.Author.Rules.{rules}
 use Rattle.records.proofs.Action.subject.Goals as goal
 
 pub returns-in-Propose : goal.returns-in-Propose

@@ -1,5 +1,4 @@
 use Rattle.records.specs.Announcement.{announcing}
-use borrow.Author.Rules.{rules}
 use Rattle.records.proofs.announcements.announcing.Goals as goal
 
 pub returns-then-ok : goal.returns-then-ok

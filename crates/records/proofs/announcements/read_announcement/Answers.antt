@@ -8,7 +8,6 @@ use Rattle.binary.specs.Number.{is_framed}
 use Rattle.records.specs.Layout.{announcement_length, announcement_size}
 use Rattle.records.specs.Announcement.{read_announcement}
 use Rattle.binary.proofs.Frames.{framed-length}
-use borrow.Author.Rules.{rules}
 use Rattle.records.proofs.announcements.read_announcement.Goals.{Then-is_framed}
 use Rattle.records.proofs.announcements.read_announcement.Goals as goal
 

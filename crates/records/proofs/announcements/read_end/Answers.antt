@@ -1,5 +1,4 @@
 use Rattle.records.specs.Announcement.{read_end}
-use borrow.Author.Rules.{rules}
 use Rattle.records.proofs.announcements.read_end.Goals as goal
 
 pub returns : goal.returns

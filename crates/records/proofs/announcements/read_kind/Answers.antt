@@ -1,6 +1,5 @@
 use Rattle.lists.proofs.Cases.{cases}
 use Rattle.records.specs.Announcement.{read_kind}
-use borrow.Author.Rules.{rules}
 use Rattle.records.proofs.announcements.read_kind.Goals as goal
 
 pub returns-in-1 : goal.returns-in-1

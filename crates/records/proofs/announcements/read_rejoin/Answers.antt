@@ -1,5 +1,4 @@
 use Rattle.records.specs.Announcement.{read_rejoin}
-use borrow.Author.Rules.{rules}
 use Rattle.records.proofs.announcements.read_rejoin.Goals as goal
 
 pub returns : goal.returns

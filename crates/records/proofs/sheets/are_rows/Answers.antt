@@ -1,11 +1,7 @@
-use Prim.Native.Nat.{◌<◌, ◌-◌}
-use mathlib.Core.Path.{◌≡◌, sym, ◌∙◌}
-use lib.Dec.{ltb}
-use lib.ListN.{drop}
+use Prim.Native.Nat.{◌<◌}
+use mathlib.Core.Path.{sym, ◌∙◌}
 use native.Mathlib.Omega.{arith}
-use borrow.Author.Rules.{rules}
 use borrow.Author.Tests.{lt-ltb, le-ltb}
-use Rattle.lists.specs.Fold.{all}
 use Rattle.lists.proofs.Loops.{all-turn, all_end}
 use Rattle.binary.specs.Number.{byte_at}
 use Rattle.records.specs.Sheet.{rows_of}

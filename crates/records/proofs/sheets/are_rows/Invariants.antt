@@ -1,15 +1,10 @@
-use Prim.Native.Nat.{◌<◌, ◌-◌}
-use mathlib.Core.Path.{◌≡◌, sym, ◌∙◌}
+use Prim.Native.Nat.{◌-◌}
+use mathlib.Core.Path.{◌≡◌}
 use lib.Dec.{ltb}
 use lib.ListN.{drop}
-use native.Mathlib.Omega.{arith}
-use borrow.Author.Rules.{rules}
-use borrow.Author.Tests.{lt-ltb, le-ltb}
 use Rattle.lists.specs.Fold.{all}
-use Rattle.lists.proofs.Loops.{all-turn, all_end}
 use Rattle.binary.specs.Number.{byte_at}
 use Rattle.records.specs.Sheet.{rows_of}
-use Rattle.records.proofs.SheetRows.{no_row, sheet-rows, sheet-row}
 use Rattle.records.proofs.sheets.are_rows.Given as goal
 
 abbrev pub invariant-loop-i : goal.invariant-loop-i

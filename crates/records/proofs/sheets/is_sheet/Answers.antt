@@ -7,7 +7,6 @@ use borrow.Author.Tests.{ne_eqb, le-leb, lt-leb}
 use Rattle.binary.specs.Number.{byte_at}
 use Rattle.records.specs.Sheet.{is_sheet}
 use Rattle.binary.proofs.Frames.{record-length}
-use borrow.Author.Rules.{rules}
 use Rattle.records.proofs.sheets.is_sheet.Goals as goal
 
 pub returns-then-b-lt-SHEET_HEAD : goal.returns-then-b-lt-SHEET_HEAD

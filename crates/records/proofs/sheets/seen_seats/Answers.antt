@@ -1,7 +1,6 @@
-use Prim.Native.Nat.{◌<◌, ◌-◌}
+use Prim.Native.Nat.{◌<◌}
 use native.Mathlib.Omega.{arith}
-use borrow.Author.Rules.{rules}
-use Rattle.records.proofs.SheetRows.{sheet-of, Seen, seen_start, seen-turn, seen_end}
+use Rattle.records.proofs.SheetRows.{sheet-of, seen_start, seen-turn, seen_end}
 use Rattle.records.proofs.sheets.seen_seats.Goals.{After-size-k}
 use Rattle.records.proofs.sheets.seen_seats.Goals as goal
 

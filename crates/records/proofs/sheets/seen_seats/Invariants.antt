@@ -1,7 +1,5 @@
-use Prim.Native.Nat.{◌<◌, ◌-◌}
-use native.Mathlib.Omega.{arith}
-use borrow.Author.Rules.{rules}
-use Rattle.records.proofs.SheetRows.{sheet-of, Seen, seen_start, seen-turn, seen_end}
+use Prim.Native.Nat.{◌-◌}
+use Rattle.records.proofs.SheetRows.{Seen}
 use Rattle.records.proofs.sheets.seen_seats.Given as goal
 
 abbrev pub invariant-loop-i : goal.invariant-loop-i

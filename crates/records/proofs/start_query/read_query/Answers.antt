@@ -1,16 +1,13 @@
 use mathlib.Core.Path.{◌≡◌, refl, sym, ap, ◌∙◌}
 use mathlib.Core.Bool.{Bool, true, false, cond, ◌||◌}
-use mathlib.Core.Logic.{⊎_elim}
 use Prim.Native.Nat.{ℕ, ◌+◌, ◌≤◌}
 use mathlib.Core.List.{List}
 use lib.ListN.{length}
 use native.Mathlib.Omega.{arith}
-use borrow.Author.Tests.{not-true, not-false}
 use Rattle.binary.specs.Number.{byte_at, is_record}
 use Rattle.records.specs.Layout.{query_length, kind_query, door_query_length, kind_door_query}
 use Rattle.records.specs.StartQuery.{read_query}
 use Rattle.binary.proofs.Frames.{record-length}
-use borrow.Author.Rules.{rules}
 use Rattle.records.proofs.start_query.read_query.Goals.{Else-not-is_record-named, Joined-named, else-named, then-named}
 use Rattle.records.proofs.start_query.read_query.Goals as goal
 

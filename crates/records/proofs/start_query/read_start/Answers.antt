@@ -4,12 +4,11 @@ use Prim.Native.Nat.{ℕ, ◌+◌}
 use mathlib.Core.List.{List}
 use lib.ListN.{length}
 use native.Mathlib.Omega.{arith}
-use borrow.Author.Tests.{lt-ltb, le-ltb, not-true, not-false}
+use borrow.Author.Tests.{lt-ltb, le-ltb}
 use Rattle.binary.specs.Number.{is_record}
 use Rattle.records.specs.Layout.{start_length, kind_start}
 use Rattle.records.specs.StartQuery.{read_start}
 use Rattle.binary.proofs.Frames.{record-length}
-use borrow.Author.Rules.{rules}
 use Rattle.records.proofs.start_query.read_start.Goals.{Else-not-is_record}
 use Rattle.records.proofs.start_query.read_start.Goals as goal
 

@@ -1,6 +1,5 @@
 use Rattle.requests.specs.Framing.{holds_record}
 use Rattle.lists.proofs.Cases.{cases}
-use borrow.Author.Rules.{rules}
 use Rattle.requests.proofs.framing.holds_record.Goals as goal
 
 pub returns-then-b-lt-RECORD_HEAD : goal.returns-then-b-lt-RECORD_HEAD

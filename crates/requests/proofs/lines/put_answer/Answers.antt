@@ -1,4 +1,3 @@
-use borrow.Author.Rules.{rules}
 use Rattle.requests.proofs.lines.put_answer.Goals as goal
 
 pub returns-in-Started : goal.returns-in-Started

@@ -3,7 +3,6 @@ use Rattle.decimal.proofs.Stored.{length-decimal}
 use Rattle.binary.proofs.Splices.{put_first, put_next, put_last, lefts-rights}
 use mathlib.Core.List.{[], ◌∷◌}
 use native.Mathlib.Omega.{arith}
-use borrow.Author.Rules.{rules}
 use Rattle.requests.proofs.lines.put_refusal.Goals as goal
 
 pub put_bytes-requires : goal.put_bytes-requires

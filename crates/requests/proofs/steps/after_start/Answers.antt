@@ -1,5 +1,4 @@
 use mathlib.Core.Path.{refl}
-use borrow.Author.Rules.{rules}
 use Rattle.requests.proofs.steps.after_start.Goals as goal
 
 pub returns-in-Started : goal.returns-in-Started

@@ -1,5 +1,4 @@
 use mathlib.Core.Path.{refl}
-use borrow.Author.Rules.{rules}
 use Rattle.requests.proofs.steps.deliver_answer.Goals as goal
 
 pub returns-in-Refused : goal.returns-in-Refused

@@ -5,7 +5,6 @@ use mathlib.Core.Path.{refl, sym, ◌∙◌}
 use Rattle.binary.proofs.Slices.{part-from}
 use Rattle.requests.proofs.Frames.{frame-fits, second_fits}
 use Rattle.requests.specs.Requests.{step_deliver}
-use borrow.Author.Rules.{rules}
 use Rattle.requests.proofs.steps.step_deliver.Goals as goal
 
 pub returns-in_default : goal.returns-in_default

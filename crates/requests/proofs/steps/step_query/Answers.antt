@@ -1,7 +1,6 @@
 use native.Mathlib.Nat.{sub-zero}
 use mathlib.Core.Path.{refl}
 use Rattle.requests.specs.Requests.{step_query}
-use borrow.Author.Rules.{rules}
 use Rattle.requests.proofs.steps.step_query.Goals as goal
 
 pub returns : goal.returns

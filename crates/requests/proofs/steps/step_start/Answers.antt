@@ -1,11 +1,9 @@
 use native.Mathlib.Nat.{sub-zero}
 use native.Mathlib.Omega.{arith}
-use borrow.Author.Tests.{not-true, not-false}
 use mathlib.Core.Path.{refl, sym, ◌∙◌}
 use Rattle.binary.proofs.Slices.{part-from}
 use Rattle.requests.proofs.Frames.{frame-fits, second_fits}
 use Rattle.requests.specs.Requests.{step_start}
-use borrow.Author.Rules.{rules}
 use Rattle.requests.proofs.steps.step_start.Goals as goal
 
 pub returns-in_default : goal.returns-in_default

@@ -2,7 +2,6 @@ use borrow.Author.Tests.{eq-eqb, ne_eqb}
 use mathlib.Core.Path.{refl, sym, ◌∙◌}
 use Rattle.requests.proofs.Frames.{frame-fits}
 use Rattle.requests.specs.Requests.{step_of}
-use borrow.Author.Rules.{rules}
 use Rattle.requests.proofs.steps.take_step.Goals as goal
 
 pub returns-in_default : goal.returns-in_default

@@ -1,10 +1,7 @@
-use Rattle.binary.proofs.Copies.{Copied, copied_none}
+use Rattle.binary.proofs.Copies.{copied_none}
 use Rattle.requests.proofs.Writing.{moved-one, moved_all}
-use lib.ListN.{length, take, drop}
-use mathlib.Core.Path.{◌≡◌, refl}
-use Prim.Native.Nat.{◌+◌, ◌-◌, ◌≤◌}
+use mathlib.Core.Path.{refl}
 use native.Mathlib.Omega.{arith}
-use borrow.Author.Rules.{rules}
 use Rattle.requests.proofs.windows.shift.Goals as goal
 
 pub loop-i-init : goal.loop-i-init

@@ -1,10 +1,7 @@
-use Rattle.binary.proofs.Copies.{Copied, copied_none}
-use Rattle.requests.proofs.Writing.{moved-one, moved_all}
+use Rattle.binary.proofs.Copies.{Copied}
 use lib.ListN.{length, take, drop}
-use mathlib.Core.Path.{◌≡◌, refl}
+use mathlib.Core.Path.{◌≡◌}
 use Prim.Native.Nat.{◌+◌, ◌-◌, ◌≤◌}
-use native.Mathlib.Omega.{arith}
-use borrow.Author.Rules.{rules}
 use Rattle.requests.proofs.windows.shift.Given as goal
 
 abbrev pub invariant-loop-i : goal.invariant-loop-i

@@ -1,6 +1,5 @@
 use Rattle.rules.specs.Rules.{check_refusal}
 use Rattle.rules.proofs.CaseKinds.{other-case}
-use borrow.Author.Rules.{rules}
 use Rattle.rules.proofs.checks.end_check.Goals as goal
 
 pub returns-in_default : goal.returns-in_default

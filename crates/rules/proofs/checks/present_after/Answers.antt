@@ -1,5 +1,4 @@
 use native.Mathlib.Omega.{arith}
-use borrow.Author.Rules.{rules}
 use Rattle.rules.proofs.checks.present_after.Goals as goal
 
 pub returns-then-flag : goal.returns-then-flag

@@ -1,7 +1,5 @@
 use native.Mathlib.Omega.{arith}
-use borrow.Author.Tests.{not-true, not-false}
 use Rattle.rules.specs.Rules.{present_without}
-use borrow.Author.Rules.{rules}
 use Rattle.rules.proofs.checks.present_without.Goals as goal
 
 pub returns-then-not-is_present : goal.returns-then-not-is_present

@@ -2,7 +2,6 @@ use borrow.Author.Tests.{eq-eqb, ne_eqb}
 use Rattle.rules.specs.Rules.{check_refusal}
 use Rattle.rules.proofs.CaseKinds.{other-case}
 use Rattle.rules.proofs.Finding.{of-case}
-use borrow.Author.Rules.{rules}
 use Rattle.rules.proofs.checks.presents_check.Goals as goal
 
 pub returns-in_default : goal.returns-in_default

@@ -1,5 +1,4 @@
 use Rattle.rules.specs.Rules.{quorum_refusal}
-use borrow.Author.Rules.{rules}
 use Rattle.rules.proofs.checks.quorum_refusal.Goals as goal
 
 pub returns : goal.returns

@@ -1,7 +1,6 @@
 use Rattle.rules.specs.Rules.{check_refusal}
 use Rattle.rules.proofs.CaseKinds.{other-case}
 use Rattle.rules.proofs.Finding.{of-case}
-use borrow.Author.Rules.{rules}
 use Rattle.rules.proofs.checks.remove_check.Goals as goal
 
 pub returns-in_default : goal.returns-in_default

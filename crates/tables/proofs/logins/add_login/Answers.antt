@@ -1,11 +1,8 @@
-use Prim.Native.Nat.{◌-◌}
-use mathlib.Core.Path.{◌≡◌, refl, sym, ◌∙◌}
+use mathlib.Core.Path.{refl, sym, ◌∙◌}
 use native.Mathlib.Omega.{arith}
-use lib.ListN.{length, length-set}
+use lib.ListN.{length-set}
 use borrow.Author.Tests.{eq-eqb, ne_eqb}
-use Rattle.lists.specs.Code.{insert_at}
 use Rattle.lists.proofs.Loops.{insert-turn, insert-end}
-use Rattle.state.specs.Limits.{login_rows}
 use Rattle.tables.proofs.Added.{add-full, add-replaces, add-inserts}
 use borrow.Author.Rules.{rules}
 use Rattle.tables.proofs.logins.add_login.Goals as goal

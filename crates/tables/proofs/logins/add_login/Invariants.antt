@@ -1,13 +1,8 @@
 use Prim.Native.Nat.{◌-◌}
-use mathlib.Core.Path.{◌≡◌, refl, sym, ◌∙◌}
-use native.Mathlib.Omega.{arith}
-use lib.ListN.{length, length-set}
-use borrow.Author.Tests.{eq-eqb, ne_eqb}
+use mathlib.Core.Path.{◌≡◌}
+use lib.ListN.{length}
 use Rattle.lists.specs.Code.{insert_at}
-use Rattle.lists.proofs.Loops.{insert-turn, insert-end}
 use Rattle.state.specs.Limits.{login_rows}
-use Rattle.tables.proofs.Added.{add-full, add-replaces, add-inserts}
-use borrow.Author.Rules.{rules}
 use Rattle.tables.proofs.logins.add_login.Given as goal
 
 abbrev pub invariant-loop-i : goal.invariant-loop-i

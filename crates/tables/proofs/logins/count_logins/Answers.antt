@@ -1,11 +1,8 @@
-use Prim.Native.Nat.{◌+◌, ◌-◌, ◌≤◌, ◌<◌}
-use mathlib.Core.Path.{◌≡◌, sym, ◌∙◌}
-use mathlib.Core.Logic.{⊎_elim}
+use Prim.Native.Nat.{◌≤◌, ◌<◌}
+use mathlib.Core.Path.{sym, ◌∙◌}
 use native.Mathlib.Omega.{arith}
-use lib.ListN.{length, drop}
-use Rattle.lists.specs.Fold.{count}
+use lib.ListN.{length}
 use Rattle.lists.proofs.Loops.{count-pass, count-fail, count-end}
-use Rattle.state.specs.Limits.{login_rows}
 use Rattle.state.specs.Rows.{is_login}
 use borrow.Author.Rules.{rules}
 use Rattle.tables.proofs.logins.count_logins.Goals.{else-is_used, then-is_used}

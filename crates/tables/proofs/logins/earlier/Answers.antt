@@ -1,4 +1,3 @@
-use borrow.Author.Rules.{rules}
 use Rattle.tables.proofs.logins.earlier.Goals as goal
 
 pub returns-then-is_before-is_same : goal.returns-then-is_before-is_same

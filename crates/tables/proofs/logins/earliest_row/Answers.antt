@@ -1,9 +1,7 @@
-use Prim.Native.Nat.{◌-◌, ◌≤◌, ◌<◌}
-use mathlib.Core.Path.{◌≡◌, refl, sym, ◌∙◌}
-use lib.ListN.{length, drop}
-use Rattle.lists.specs.Fold.{least}
+use Prim.Native.Nat.{◌≤◌, ◌<◌}
+use mathlib.Core.Path.{refl, sym, ◌∙◌}
+use lib.ListN.{length}
 use Rattle.lists.proofs.Loops.{least-turn, least-end}
-use Rattle.state.specs.Limits.{login_rows}
 use Rattle.state.specs.Rows.{no_login}
 use Rattle.tables.specs.Logins.{is_earlier, earliest_row}
 use borrow.Author.Rules.{rules}

@@ -1,12 +1,9 @@
-use Prim.Native.Nat.{◌-◌, ◌≤◌, ◌<◌}
-use mathlib.Core.Path.{◌≡◌, refl, sym, ◌∙◌}
-use lib.ListN.{length, drop}
+use Prim.Native.Nat.{◌-◌}
+use mathlib.Core.Path.{◌≡◌}
+use lib.ListN.{drop}
 use Rattle.lists.specs.Fold.{least}
-use Rattle.lists.proofs.Loops.{least-turn, least-end}
 use Rattle.state.specs.Limits.{login_rows}
-use Rattle.state.specs.Rows.{no_login}
 use Rattle.tables.specs.Logins.{is_earlier, earliest_row}
-use borrow.Author.Rules.{rules}
 use Rattle.tables.proofs.logins.earliest_row.Given as goal
 
 abbrev pub invariant-loop-i : goal.invariant-loop-i

@@ -1,14 +1,13 @@
-use Prim.Native.Nat.{◌-◌, ◌≤◌, ◌<◌}
+use Prim.Native.Nat.{◌≤◌, ◌<◌}
 use mathlib.Core.Path.{ap}
 use mathlib.Core.Bool.{not}
-use mathlib.Core.Logic.{⊎_elim}
 use native.Mathlib.Omega.{arith}
 use borrow.Author.Tests.{eq-eqb, ne_eqb}
 use lib.ListN.{length}
-use Rattle.lists.proofs.Loops.{Kept, keep-start, keep-pass, keep-fail, keep-end}
+use Rattle.lists.proofs.Loops.{keep-start, keep-pass, keep-fail, keep-end}
 use Rattle.state.specs.Limits.{login_rows}
 use Rattle.state.specs.Rows.{no_login}
-use Rattle.tables.specs.Logins.{is_named, end_login}
+use Rattle.tables.specs.Logins.{end_login}
 use borrow.Author.Rules.{rules}
 use Rattle.tables.proofs.logins.end_login.Goals.{else-row-login, then-row-login}
 use Rattle.tables.proofs.logins.end_login.Goals as goal
@@ -23,8 +22,11 @@ loop-i-preserved c =
     let h : b.loop-i.i < length a.rows = search rules in
     let m : length a.rows ≤ login_rows = search rules in (
       omega arith,
-      elim c.if-row-login.branch [ then-row-login w ↦ rw (w.out-is, w.j-is)
-          (keep-pass _ login_rows no_login a.rows b.loop-i.i _ h m _ _ b.loop-i.invariant.1 (ap not (ne_eqb _ _ w.if-row-login.true))) | else-row-login w ↦ rw (w.out-is, w.j-is) (keep-fail _ login_rows no_login a.rows b.loop-i.i _ h m _ _ b.loop-i.invariant.1 (ap not (eq-eqb _ _ w.if-row-login.false))) ],
+      elim c.if-row-login.branch [
+        | then-row-login w ↦ rw (w.out-is, w.j-is)
+            (keep-pass _ login_rows no_login a.rows b.loop-i.i _ h m _ _ b.loop-i.invariant.1 (ap not (ne_eqb _ _ w.if-row-login.true)))
+        | else-row-login w ↦ rw (w.out-is, w.j-is) (keep-fail _ login_rows no_login a.rows b.loop-i.i _ h m _ _ b.loop-i.invariant.1 (ap not (eq-eqb _ _ w.if-row-login.false)))
+      ],
     )
 
 pub returns : goal.returns

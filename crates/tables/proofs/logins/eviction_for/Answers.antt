@@ -1,6 +1,4 @@
 use mathlib.Core.Path.{sym, ◌∙◌}
-use borrow.Author.Tests.{not-true, not-false}
-use borrow.Author.Rules.{rules}
 use Rattle.tables.proofs.logins.eviction_for.Goals as goal
 
 pub returns-then-not-needs_row : goal.returns-then-not-needs_row

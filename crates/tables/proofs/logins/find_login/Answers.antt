@@ -1,10 +1,8 @@
-use Prim.Native.Nat.{◌-◌, ◌≤◌, ◌<◌}
-use mathlib.Core.Path.{◌≡◌, refl, sym, ◌∙◌}
+use Prim.Native.Nat.{◌≤◌, ◌<◌}
+use mathlib.Core.Path.{refl, sym, ◌∙◌}
 use borrow.Author.Tests.{eq-eqb, ne_eqb}
-use lib.ListN.{length, drop}
-use Rattle.lists.specs.Fold.{first}
+use lib.ListN.{length}
 use Rattle.lists.proofs.Loops.{first-pass, first-fail, first-end}
-use Rattle.state.specs.Limits.{login_rows}
 use Rattle.state.specs.Rows.{no_login}
 use Rattle.tables.specs.Logins.{is_named, find_login}
 use borrow.Author.Rules.{rules}

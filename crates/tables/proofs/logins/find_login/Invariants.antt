@@ -1,13 +1,10 @@
-use Prim.Native.Nat.{◌-◌, ◌≤◌, ◌<◌}
-use mathlib.Core.Path.{◌≡◌, refl, sym, ◌∙◌}
-use borrow.Author.Tests.{eq-eqb, ne_eqb}
-use lib.ListN.{length, drop}
+use Prim.Native.Nat.{◌-◌}
+use mathlib.Core.Path.{◌≡◌}
+use lib.ListN.{drop}
 use Rattle.lists.specs.Fold.{first}
-use Rattle.lists.proofs.Loops.{first-pass, first-fail, first-end}
 use Rattle.state.specs.Limits.{login_rows}
 use Rattle.state.specs.Rows.{no_login}
-use Rattle.tables.specs.Logins.{is_named, find_login}
-use borrow.Author.Rules.{rules}
+use Rattle.tables.specs.Logins.{is_named}
 use Rattle.tables.proofs.logins.find_login.Given as goal
 
 abbrev pub invariant-loop-i : goal.invariant-loop-i

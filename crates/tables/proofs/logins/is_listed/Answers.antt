@@ -1,5 +1,4 @@
 use Rattle.tables.specs.Logins.{is_listed}
-use borrow.Author.Rules.{rules}
 use Rattle.tables.proofs.logins.is_listed.Goals as goal
 
 pub returns : goal.returns

@@ -1,4 +1,3 @@
-use borrow.Author.Rules.{rules}
 use Rattle.tables.proofs.logins.is_place.Goals as goal
 
 pub returns : goal.returns

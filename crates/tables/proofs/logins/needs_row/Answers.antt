@@ -1,5 +1,4 @@
 use mathlib.Core.Path.{sym, ◌∙◌}
-use borrow.Author.Rules.{rules}
 use Rattle.tables.proofs.logins.needs_row.Goals as goal
 
 pub returns-then-logins_full : goal.returns-then-logins_full

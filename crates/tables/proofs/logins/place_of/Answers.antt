@@ -1,9 +1,7 @@
-use Rattle.state.specs.Limits.{login_rows}
-use Prim.Native.Nat.{◌+◌, ◌-◌, ◌≤◌, ◌<◌}
-use mathlib.Core.Path.{◌≡◌, sym, ◌∙◌}
+use Prim.Native.Nat.{◌≤◌, ◌<◌}
+use mathlib.Core.Path.{sym, ◌∙◌}
 use native.Mathlib.Omega.{arith}
-use lib.ListN.{length, drop}
-use Rattle.lists.specs.Code.{index_of}
+use lib.ListN.{length}
 use Rattle.lists.proofs.Loops.{index-pass, index-fail, index-end}
 use Rattle.tables.specs.Code.{is_place}
 use borrow.Author.Rules.{rules}

@@ -1,12 +1,9 @@
 use Rattle.state.specs.Limits.{login_rows}
-use Prim.Native.Nat.{◌+◌, ◌-◌, ◌≤◌, ◌<◌}
-use mathlib.Core.Path.{◌≡◌, sym, ◌∙◌}
-use native.Mathlib.Omega.{arith}
-use lib.ListN.{length, drop}
+use Prim.Native.Nat.{◌+◌, ◌-◌}
+use mathlib.Core.Path.{◌≡◌}
+use lib.ListN.{drop}
 use Rattle.lists.specs.Code.{index_of}
-use Rattle.lists.proofs.Loops.{index-pass, index-fail, index-end}
 use Rattle.tables.specs.Code.{is_place}
-use borrow.Author.Rules.{rules}
 use Rattle.tables.proofs.logins.place_of.Given as goal
 
 abbrev pub invariant-loop-i : goal.invariant-loop-i

@@ -1,13 +1,10 @@
-use Prim.Native.Nat.{◌-◌, ◌<◌}
-use mathlib.Core.Path.{◌≡◌, refl, sym, ap, ◌∙◌}
+use Prim.Native.Nat.{◌-◌}
+use mathlib.Core.Path.{◌≡◌}
 use mathlib.Core.Bool.{not}
-use native.Mathlib.Omega.{arith}
 use lib.ListN.{length}
-use Rattle.lists.proofs.Loops.{Passed, replace-start, replace-pass, replace-fail, replace-end}
+use Rattle.lists.proofs.Loops.{Passed}
 use Rattle.state.specs.Limits.{proposal_rows}
-use Rattle.state.specs.Rows.{no_proposal, is_proposal}
-use Rattle.tables.specs.Proposals.{add_proposal}
-use borrow.Author.Rules.{rules}
+use Rattle.state.specs.Rows.{is_proposal}
 use Rattle.tables.proofs.proposals.add_proposal.Given as goal
 
 abbrev pub invariant-loop-i : goal.invariant-loop-i

@@ -1,11 +1,8 @@
-use Prim.Native.Nat.{◌+◌, ◌-◌, ◌≤◌, ◌<◌}
-use mathlib.Core.Path.{◌≡◌, sym, ◌∙◌}
-use mathlib.Core.Logic.{⊎_elim}
+use Prim.Native.Nat.{◌≤◌, ◌<◌}
+use mathlib.Core.Path.{sym, ◌∙◌}
 use native.Mathlib.Omega.{arith}
-use lib.ListN.{length, drop}
-use Rattle.lists.specs.Fold.{count}
+use lib.ListN.{length}
 use Rattle.lists.proofs.Loops.{count-pass, count-fail, count-end}
-use Rattle.state.specs.Limits.{proposal_rows}
 use Rattle.state.specs.Rows.{is_proposal}
 use borrow.Author.Rules.{rules}
 use Rattle.tables.proofs.proposals.count_proposals.Goals.{else-is_used, then-is_used}

@@ -1,14 +1,9 @@
-use Prim.Native.Nat.{◌-◌, ◌≤◌, ◌<◌}
-use mathlib.Core.Path.{sym, ap, ◌∙◌}
+use Prim.Native.Nat.{◌-◌, ◌≤◌}
 use mathlib.Core.Bool.{not}
-use mathlib.Core.Logic.{⊎_elim}
-use native.Mathlib.Omega.{arith}
-use lib.ListN.{length}
-use Rattle.lists.proofs.Loops.{Kept, keep-start, keep-pass, keep-fail, keep-end}
+use Rattle.lists.proofs.Loops.{Kept}
 use Rattle.state.specs.Limits.{proposal_rows}
 use Rattle.state.specs.Rows.{no_proposal}
-use Rattle.tables.specs.Proposals.{is_lapsed, drop_lapsed}
-use borrow.Author.Rules.{rules}
+use Rattle.tables.specs.Proposals.{is_lapsed}
 use Rattle.tables.proofs.proposals.drop_lapsed.Given as goal
 
 abbrev pub invariant-loop-i : goal.invariant-loop-i

@@ -1,13 +1,12 @@
-use Prim.Native.Nat.{◌-◌, ◌≤◌, ◌<◌}
+use Prim.Native.Nat.{◌≤◌, ◌<◌}
 use mathlib.Core.Path.{sym, ap, ◌∙◌}
 use mathlib.Core.Bool.{not}
-use mathlib.Core.Logic.{⊎_elim}
 use native.Mathlib.Omega.{arith}
 use lib.ListN.{length}
-use Rattle.lists.proofs.Loops.{Kept, keep-start, keep-pass, keep-fail, keep-end}
+use Rattle.lists.proofs.Loops.{keep-start, keep-pass, keep-fail, keep-end}
 use Rattle.state.specs.Limits.{proposal_rows}
 use Rattle.state.specs.Rows.{no_proposal}
-use Rattle.tables.specs.Proposals.{is_of_cycle, drop_proposal}
+use Rattle.tables.specs.Proposals.{drop_proposal}
 use borrow.Author.Rules.{rules}
 use Rattle.tables.proofs.proposals.drop_proposal.Goals.{else-not-is_of_cycle, then-not-is_of_cycle}
 use Rattle.tables.proofs.proposals.drop_proposal.Goals as goal
@@ -22,11 +21,14 @@ loop-i-preserved c =
     let h : b.loop-i.i < length a.rows = search rules in
     let m : length a.rows ≤ proposal_rows = search rules in (
       omega arith,
-      elim c.if-not-is_of_cycle.branch [ then-not-is_of_cycle w ↦ rw (w.out-is, w.j-is)
-          (keep-pass _ proposal_rows no_proposal a.rows b.loop-i.i _ h m _ _ b.loop-i.invariant.1
-          (ap not (sym c.is_of_cycle.ensures ∙ w.if-not-is_of_cycle.true))) | else-not-is_of_cycle w ↦ rw (w.out-is, w.j-is)
-          (keep-fail _ proposal_rows no_proposal a.rows b.loop-i.i _ h m _ _ b.loop-i.invariant.1
-          (ap not (sym c.is_of_cycle.ensures ∙ w.if-not-is_of_cycle.false))) ],
+      elim c.if-not-is_of_cycle.branch [
+        | then-not-is_of_cycle w ↦ rw (w.out-is, w.j-is)
+            (keep-pass _ proposal_rows no_proposal a.rows b.loop-i.i _ h m _ _ b.loop-i.invariant.1
+            (ap not (sym c.is_of_cycle.ensures ∙ w.if-not-is_of_cycle.true)))
+        | else-not-is_of_cycle w ↦ rw (w.out-is, w.j-is)
+            (keep-fail _ proposal_rows no_proposal a.rows b.loop-i.i _ h m _ _ b.loop-i.invariant.1
+            (ap not (sym c.is_of_cycle.ensures ∙ w.if-not-is_of_cycle.false)))
+      ],
     )
 
 pub returns : goal.returns

@@ -1,12 +1,9 @@
-use Prim.Native.Nat.{◌+◌, ◌-◌, ◌≤◌, ◌<◌}
-use mathlib.Core.Path.{◌≡◌, refl, sym, ap, ◌∙◌}
-use mathlib.Core.Bool.{◌||◌}
-use lib.ListN.{length, drop}
+use Prim.Native.Nat.{◌-◌}
+use mathlib.Core.Path.{◌≡◌}
+use lib.ListN.{drop}
 use Rattle.lists.specs.Fold.{any}
-use Rattle.lists.proofs.Loops.{any-turn, any-end}
 use Rattle.state.specs.Limits.{proposal_rows}
 use Rattle.tables.specs.Proposals.{is_lapsed}
-use borrow.Author.Rules.{rules}
 use Rattle.tables.proofs.proposals.has_lapsed.Given as goal
 
 abbrev pub invariant-loop-i : goal.invariant-loop-i

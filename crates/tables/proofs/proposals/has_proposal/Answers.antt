@@ -1,9 +1,5 @@
-use Prim.Native.Nat.{◌-◌}
-use mathlib.Core.Path.{◌≡◌, refl}
-use mathlib.Core.Bool.{◌||◌}
-use lib.ListN.{drop}
+use mathlib.Core.Path.{refl}
 use Rattle.state.specs.Limits.{proposal_rows}
-use Rattle.lists.specs.Fold.{any}
 use Rattle.lists.proofs.Loops.{seek-inside, seek-turn, seek-end}
 use native.Mathlib.Omega.{arith}
 use Rattle.tables.specs.Proposals.{is_of_cycle, has_proposal}

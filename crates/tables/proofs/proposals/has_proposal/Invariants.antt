@@ -1,13 +1,10 @@
 use Prim.Native.Nat.{◌-◌}
-use mathlib.Core.Path.{◌≡◌, refl}
+use mathlib.Core.Path.{◌≡◌}
 use mathlib.Core.Bool.{◌||◌}
 use lib.ListN.{drop}
 use Rattle.state.specs.Limits.{proposal_rows}
 use Rattle.lists.specs.Fold.{any}
-use Rattle.lists.proofs.Loops.{seek-inside, seek-turn, seek-end}
-use native.Mathlib.Omega.{arith}
-use Rattle.tables.specs.Proposals.{is_of_cycle, has_proposal}
-use borrow.Author.Rules.{rules}
+use Rattle.tables.specs.Proposals.{is_of_cycle}
 use Rattle.tables.proofs.proposals.has_proposal.Given as goal
 
 abbrev pub invariant-loop-i : goal.invariant-loop-i

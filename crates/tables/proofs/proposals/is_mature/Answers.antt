@@ -1,4 +1,3 @@
-use borrow.Author.Rules.{rules}
 use Rattle.tables.proofs.proposals.is_mature.Goals as goal
 
 pub returns : goal.returns

@@ -1,4 +1,3 @@
-use borrow.Author.Rules.{rules}
 use Rattle.tables.proofs.proposals.is_of_cycle.Goals as goal
 
 pub returns : goal.returns

@@ -1,9 +1,7 @@
-use Prim.Native.Nat.{◌-◌, ◌≤◌, ◌<◌}
-use mathlib.Core.Path.{◌≡◌, refl, sym, ◌∙◌}
-use lib.ListN.{length, drop}
-use Rattle.lists.specs.Fold.{first}
+use Prim.Native.Nat.{◌≤◌, ◌<◌}
+use mathlib.Core.Path.{refl, sym, ◌∙◌}
+use lib.ListN.{length}
 use Rattle.lists.proofs.Loops.{first-pass, first-fail, first-end}
-use Rattle.state.specs.Limits.{proposal_rows}
 use Rattle.state.specs.Rows.{no_proposal}
 use Rattle.tables.specs.Proposals.{is_mature, mature_proposal}
 use borrow.Author.Rules.{rules}

@@ -1,12 +1,10 @@
-use Prim.Native.Nat.{◌-◌, ◌≤◌, ◌<◌}
-use mathlib.Core.Path.{◌≡◌, refl, sym, ◌∙◌}
-use lib.ListN.{length, drop}
+use Prim.Native.Nat.{◌-◌}
+use mathlib.Core.Path.{◌≡◌}
+use lib.ListN.{drop}
 use Rattle.lists.specs.Fold.{first}
-use Rattle.lists.proofs.Loops.{first-pass, first-fail, first-end}
 use Rattle.state.specs.Limits.{proposal_rows}
 use Rattle.state.specs.Rows.{no_proposal}
-use Rattle.tables.specs.Proposals.{is_mature, mature_proposal}
-use borrow.Author.Rules.{rules}
+use Rattle.tables.specs.Proposals.{is_mature}
 use Rattle.tables.proofs.proposals.mature_proposal.Given as goal
 
 abbrev pub invariant-loop-i : goal.invariant-loop-i

@@ -3,7 +3,6 @@ use mathlib.Core.Path.{◌∙◌}
 use Rattle.records.proofs.SheetRows.{sheet-of}
 use Rattle.verdicts.specs.Verdicts.{deliver_refusal}
 use Rattle.verdicts.proofs.Halting.{halted}
-use borrow.Author.Rules.{rules}
 use Rattle.verdicts.proofs.calls.deliver_refusal.Goals as goal
 
 pub returns-then-is_halted : goal.returns-then-is_halted

@@ -1,7 +1,6 @@
 use mathlib.Core.Path.{sym, ap, ◌∙◌}
 use mathlib.Core.Bool.{not}
 use Rattle.verdicts.specs.Verdicts.{login_refusal}
-use borrow.Author.Rules.{rules}
 use Rattle.verdicts.proofs.calls.login_refusal.Goals as goal
 
 pub returns-then-not-is_used : goal.returns-then-not-is_used

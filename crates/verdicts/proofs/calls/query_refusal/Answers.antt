@@ -3,7 +3,6 @@ use borrow.Author.Tests.{le-leb, lt-leb}
 use Rattle.verdicts.specs.Own.{is_halted}
 use Rattle.verdicts.specs.Verdicts.{query_refusal}
 use Rattle.verdicts.proofs.Halting.{halted}
-use borrow.Author.Rules.{rules}
 use Rattle.verdicts.proofs.calls.query_refusal.Goals.{After-is_halted}
 use Rattle.verdicts.proofs.calls.query_refusal.Goals as goal
 

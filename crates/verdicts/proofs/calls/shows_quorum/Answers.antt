@@ -3,7 +3,6 @@ use lib.Dec.{leb}
 use Rattle.state.specs.Seats.{quorum, quorum_of}
 use Rattle.records.specs.Sheet.{rows_of, counted_seats}
 use Rattle.verdicts.specs.Verdicts.{shows_quorum}
-use borrow.Author.Rules.{rules}
 use Rattle.verdicts.proofs.calls.shows_quorum.Goals as goal
 
 pub reaches_quorum-requires : goal.reaches_quorum-requires

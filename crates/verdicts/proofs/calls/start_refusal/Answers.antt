@@ -1,5 +1,4 @@
 use Rattle.verdicts.specs.Verdicts.{start_refusal}
-use borrow.Author.Rules.{rules}
 use Rattle.verdicts.proofs.calls.start_refusal.Goals as goal
 
 pub returns : goal.returns

@@ -1,5 +1,4 @@
 use Rattle.verdicts.specs.Verdicts.{vote_refusal}
-use borrow.Author.Rules.{rules}
 use Rattle.verdicts.proofs.calls.vote_refusal.Goals as goal
 
 pub returns : goal.returns

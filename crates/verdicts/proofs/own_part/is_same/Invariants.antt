@@ -1,11 +1,8 @@
 use Prim.Native.Nat.{◌-◌}
-use mathlib.Core.Path.{◌≡◌, sym, ◌∙◌}
-use native.Mathlib.Omega.{arith}
+use mathlib.Core.Path.{◌≡◌}
 use lib.ListN.{length, drop}
-use borrow.Author.Rules.{rules}
 use Rattle.records.specs.Layout.{announcement_size}
 use Rattle.binary.specs.Number.{is_same_bytes}
-use Rattle.verdicts.proofs.VoteBytes.{same-pass, same-fail, same_end}
 use Rattle.verdicts.proofs.own_part.is_same.Given as goal
 
 abbrev pub invariant-loop-i : goal.invariant-loop-i

@@ -1,9 +1,6 @@
-use Prim.Native.Nat.{◌-◌}
-use mathlib.Core.Path.{◌≡◌, ◌∙◌}
+use mathlib.Core.Path.{◌∙◌}
 use native.Mathlib.Omega.{arith}
-use lib.ListN.{length, take, length-set}
-use borrow.Author.Rules.{rules}
-use Rattle.records.specs.Layout.{announcement_size}
+use lib.ListN.{length-set}
 use Rattle.verdicts.proofs.VoteBytes.{copied, all-copied}
 use Rattle.verdicts.proofs.own_part.vote_of.Goals as goal
 

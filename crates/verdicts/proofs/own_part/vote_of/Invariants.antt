@@ -1,10 +1,7 @@
 use Prim.Native.Nat.{◌-◌}
-use mathlib.Core.Path.{◌≡◌, ◌∙◌}
-use native.Mathlib.Omega.{arith}
-use lib.ListN.{length, take, length-set}
-use borrow.Author.Rules.{rules}
+use mathlib.Core.Path.{◌≡◌}
+use lib.ListN.{length, take}
 use Rattle.records.specs.Layout.{announcement_size}
-use Rattle.verdicts.proofs.VoteBytes.{copied, all-copied}
 use Rattle.verdicts.proofs.own_part.vote_of.Given as goal
 
 abbrev pub invariant-loop-i : goal.invariant-loop-i

@@ -1,4 +1,3 @@
-use borrow.Author.Rules.{rules}
 use Rattle.verdicts.proofs.own_part.voted_otherwise.Goals as goal
 
 pub returns : goal.returns

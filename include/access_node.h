@@ -53,8 +53,8 @@
  *
  * Target. libnode_c.a is for x86-64 (System V ABI, ELF) and for nothing else. It uses SSE2
  * registers and the red zone below the stack pointer, so a call needs a stack of its own that is
- * aligned as the ABI says, and an interrupt handler saves those registers. It calls memcpy and no
- * other function, so it needs no C library beyond that one, and has no unwind tables.
+ * aligned as the ABI says, and an interrupt handler saves those registers. It calls memcpy and
+ * memset and no other function, so it needs no C library beyond these two, and has no unwind tables.
  */
 #ifndef ACCESS_NODE_H
 #define ACCESS_NODE_H

@@ -59,7 +59,8 @@
 #include <sys/stat.h>
 
 #define RANDOM_SOURCE "/dev/urandom"
-#define OUT_OF_RANGE "K or N is not from 2 to 16, or K is above N"
+#define OUT_OF_RANGE "not from 2 to 16, or K is above N"
+#define IN_FILE_OUT_OF_RANGE "K or N in it is " OUT_OF_RANGE
 
 enum {
     FAILED = 1,
@@ -213,15 +214,17 @@ static int close_line(int printed, const char *prefix, uint32_t n) {
 }
 
 /* Splits the key in its place with new coefficients, and begins a share file of a new set. `origin`
- * is where K and N are from. More coefficients are drawn than the call uses where K is below 16. */
-static int draw_shares(uint32_t k, uint32_t n, const char *origin, uint8_t *share_file) {
+ * is where K and N are from, and `refused` the message where they are out of range. More coefficients
+ * are drawn than the call uses where K is below 16. */
+static int draw_shares(uint32_t k, uint32_t n, const char *origin, const char *refused,
+                       uint8_t *share_file) {
     if (read_random(secret.coefficients, sizeof secret.coefficients) != 0 ||
         read_random(share_file, NAME_SIZE) != 0)
         return FAILED;
     uint32_t returned = node_shares_split(secret.key, sizeof secret.key, k, n, secret.coefficients,
                                           sizeof secret.coefficients, secret.shares, sizeof secret.shares);
     if (ACCESS_NODE_ANSWER(returned) != ACCESS_NODE_OK)
-        return fail(origin, OUT_OF_RANGE);
+        return fail(origin, refused);
     share_file[AT_K] = (uint8_t)k;
     share_file[AT_N] = (uint8_t)n;
     return 0;
@@ -229,7 +232,7 @@ static int draw_shares(uint32_t k, uint32_t n, const char *origin, uint8_t *shar
 
 static int split(uint32_t k, uint32_t n, const char *key_path, const char *prefix) {
     if (read_file(key_path, secret.key, sizeof secret.key, "no key, which has 32 bytes") != 0 ||
-        draw_shares(k, n, "split", secret.share_file) != 0 ||
+        draw_shares(k, n, "K and N", OUT_OF_RANGE, secret.share_file) != 0 ||
         write_shares(prefix, n, secret.share_file, sizeof secret.share_file) != 0)
         return FAILED;
     int printed = printf("%u shares, any %u of them give the key\n", (unsigned)n, (unsigned)k);
@@ -239,7 +242,7 @@ static int split(uint32_t k, uint32_t n, const char *key_path, const char *prefi
 /* Says why the merge of this many share files, of which this is the first, is refused. */
 static int refuse_merge(uint32_t answer, const char *first, unsigned k, size_t files) {
     if (answer == ACCESS_NODE_OUT_OF_RANGE)
-        return fail(first, OUT_OF_RANGE);
+        return fail(first, IN_FILE_OUT_OF_RANGE);
     if (answer == ACCESS_NODE_BAD_SHARE_NUMBER)
         return fail("share files", "a share comes twice, or its number is not from 1 to N");
     fprintf(stderr, "key_shares: %u share files are needed, not %zu\n", k, files);
@@ -255,7 +258,7 @@ static int merge(const char *key_path, char **paths, size_t files) {
         if (i == 0)
             memcpy(head, secret.share_file, sizeof head);
         if (memcmp(head, secret.share_file, sizeof head) != 0)
-            return fail(paths[i], "not of the same set as the first share file");
+            return fail(paths[i], "not of the same split as the first share file");
         numbers[i] = secret.share_file[AT_NUMBER];
         memcpy(secret.shares + KEY_SIZE * i, secret.share_file + AT_SHARE, KEY_SIZE);
     }
@@ -272,7 +275,7 @@ static int renewal(const char *share_path, const char *prefix) {
         return FAILED;
     uint32_t k = secret.share_file[AT_K], n = secret.share_file[AT_N];
     memcpy(secret.renewal_file, secret.share_file, NAME_SIZE);
-    if (draw_shares(k, n, share_path, secret.renewal_file + NAME_SIZE) != 0 ||
+    if (draw_shares(k, n, share_path, IN_FILE_OUT_OF_RANGE, secret.renewal_file + NAME_SIZE) != 0 ||
         write_shares(prefix, n, secret.renewal_file, sizeof secret.renewal_file) != 0)
         return FAILED;
     int printed = printf("%u renewal files, each for the share with its number\n", (unsigned)n);

@@ -234,6 +234,14 @@ def check_pair(folder, k, n, rng):
     folder.remove(made.values())
 
 
+def check_all_orders(folder, k, n, rng):
+    key = rng.randbytes(KEY)
+    names = folder.split(key, k, n, "share")
+    for choice in itertools.permutations(names.values(), k):
+        folder.merge(key, choice)
+    folder.remove(names.values())
+
+
 def check_renewal(folder, k, names, shares, set_name, key, rng):
     """Renewal files have shares of the zero key. Of k shares that are chosen, one is renewed by the program and the others here."""
     n = len(names)
@@ -277,11 +285,11 @@ def check_two_splits(folder, rng):
     first, second = folder.split(key, 2, 3, "first"), folder.split(key, 2, 3, "second")
     (shares, name), (others, other_name) = read_shares(folder, first, 2, 3), read_shares(folder, second, 2, 3)
     expect(name != other_name and not set(shares.values()) & set(others.values()), "two splits of one key are alike")
-    folder.refuses(1, "second.2: not of the same set", "merge", "merged", "first.1", "second.2")
-    folder.refuses(1, "first.3: not of the same set", "merge", "merged", "second.1", "second.2", "first.3")  # behind the first k
+    folder.refuses(1, "second.2: not of the same split", "merge", "merged", "first.1", "second.2")
+    folder.refuses(1, "first.3: not of the same split", "merge", "merged", "second.1", "second.2", "first.3")  # behind the first k
     for case, (k, n) in {"k": (3, 3), "n": (2, 4)}.items():
         folder.write_share(f"other-{case}", k, n, 2, others[2], name)
-        folder.refuses(1, f"other-{case}: not of the same set", "merge", "merged", "first.1", f"other-{case}")
+        folder.refuses(1, f"other-{case}: not of the same split", "merge", "merged", "first.1", f"other-{case}")
 
 
 def check_old_and_new(folder, rng):
@@ -289,8 +297,8 @@ def check_old_and_new(folder, rng):
     key = rng.randbytes(KEY)
     old = folder.split(key, 3, 5, "old")
     new = folder.renew_all(old, "renewed")
-    folder.refuses(1, "renewed.2: not of the same set", "merge", "merged", "old.1", "renewed.2", "old.3")
-    folder.refuses(1, "old.5: not of the same set", "merge", "merged", "renewed.1", "renewed.2", "renewed.3", "old.5")  # behind the first k
+    folder.refuses(1, "renewed.2: not of the same split", "merge", "merged", "old.1", "renewed.2", "old.3")
+    folder.refuses(1, "old.5: not of the same split", "merge", "merged", "renewed.1", "renewed.2", "renewed.3", "old.5")  # behind the first k
     (shares, name), (others, _) = read_shares(folder, old, 3, 5), read_shares(folder, new, 3, 5)
     forged = {number: folder.write_share(f"forged.{number}", 3, 5, number, share, name) for number, share in others.items()}
     for choice in itertools.combinations(old, 3):
@@ -327,7 +335,7 @@ def check_two_renewals(folder, rng):
     (added, new_name), (others, other_name) = read_shares(folder, left, 3, 5, name), read_shares(folder, right, 3, 5, name)
     expect(new_name != other_name and not set(added.values()) & set(others.values()), "two renewals of one set are alike")
     new = [folder.renew(f"set-{side}.{number}", names[number], f"{side}.{number}") for number, side in [(1, "left"), (2, "right"), (5, "left")]]
-    folder.refuses(1, "set-right.2: not of the same set", "merge", "merged", *new)
+    folder.refuses(1, "set-right.2: not of the same split", "merge", "merged", *new)
     folder.merge(ZERO, [folder.write(f"zero.{number}", folder.read(left[number])[NAME:]) for number in [5, 2, 3]])
     expect(value({0: ZERO, 2: added[2], 5: added[5]}, 1) == added[1], "two renewal files for k = 3 do not give the others here")
 
@@ -382,7 +390,7 @@ def check_refused_prefixes(folder, size, *words):
 
 def check_refused_splits(folder):
     for k, n in OUT_OF_RANGE:
-        folder.refuses(1, "split: K or N is not from 2 to 16, or K is above N", "split", k, n, "key", "new")
+        folder.refuses(1, "K and N: not from 2 to 16, or K is above N", "split", k, n, "key", "new")
     for size in [0, 31, 33, 64]:
         folder.refuses(1, "32 bytes", "split", 2, 3, folder.write(f"key-{size}", bytes(size)), "new")
     folder.refuses(1, "nowhere: No such file", "split", 2, 3, "nowhere", "new")
@@ -405,14 +413,14 @@ def check_refused_merges(folder):
         folder.refuses(1, "its number is not from 1 to N", "merge", "merged", "number", "good.2")
     for k, n in WRONG_IN_FILE:
         names = [folder.write_share(f"range.{number}", k, n, number, ZERO) for number in range(1, 17)]
-        folder.refuses(1, "range.1: K or N is not from 2 to 16, or K is above N", "merge", "merged", *names)
+        folder.refuses(1, "range.1: K or N in it is not from 2 to 16, or K is above N", "merge", "merged", *names)
 
 
 def check_refused_renewals(folder):
     check_refused_files(folder, "share", lambda name: ("renewal", name, "new"))
     for k, n in WRONG_IN_FILE:
         folder.write_share("range", k, n, 1, ZERO)
-        folder.refuses(1, "range: K or N is not from 2 to 16, or K is above N", "renewal", "range", "new")
+        folder.refuses(1, "range: K or N in it is not from 2 to 16, or K is above N", "renewal", "range", "new")
     check_refused_prefixes(folder, RENEWAL_FILE, "renewal", folder.write_share("of-16", 2, 16, 1, ZERO))
 
 
@@ -444,6 +452,7 @@ def check_sets(folder, rng):
     for k, n in PAIRS:
         check_pair(folder, k, n, rng)
     for k, n in SMALL:
+        check_all_orders(folder, k, n, rng)
         check_renewed_twice(folder, k, n, itertools.permutations, rng)
     for k, n in MIDDLE:
         check_renewed_twice(folder, k, n, itertools.combinations, rng)

@@ -122,6 +122,8 @@ module _ (h : Host) (d : ℕ) where
           left : (t : Bool) → Similar (cond t (leave w g (f n).node) w) (cond t (leave v g (f k).node) v)
           left true = leave-both g (f n).node (f k).node S (near n k x).1
           left false = S
+      at none (some k) a b h = elim h [ ]
+      at (some n) none a b h = elim h [ ]
 
   -- a query at another door of host h, on one side
   elsewhere-near : (qb : List ℕ) → is_elsewhere d (read_query qb) ≡ true → (n k : Node) → Near h n k → Near h (query_of n qb).node k
@@ -143,6 +145,8 @@ module _ (h : Host) (d : ℕ) where
           let y = elsewhere-near qb e n k x in
           rw (on_some w h f out n a y.fine.0)
           (cond_cases (λ (z : Cluster). Similar z v) (leaves_at h out (f n).number) (λ _. leave-one h (f n).node k S b y) (λ _. S))
+      at none (some k) a b x = elim x [ ]
+      at (some n) none a b x = elim x [ ]
 
   -- nodes that are near stay so
   deliver-near : (ab sb : List ℕ) → Bytes ab → (g : Host) (n k : Node) → Near g n k
@@ -212,6 +216,8 @@ module _ (h : Host) (d : ℕ) where
           (cond t (give v (take checkpoint_size (checkpoint_slice k out))) v)
       left j true = give-both w v _ S
       left j false = S
+  checkpoint-both w v out S g none (some k) x'' = elim x'' [ ]
+  checkpoint-both w v out S g (some n) none x3 = elim x3 [ ]
 
   -- a call that is not at another door of the host
   run-both : (w v : Cluster) (c : Call) → HoldsBytes c → asks_elsewhere h d c ≡ false → Similar w v → SameOutcome (run w c) (run v c)

@@ -2,11 +2,12 @@
 use mathlib.Core.Path.{◌≡◌, refl, sym, ap, ◌∙◌, subst}
 use mathlib.Core.Logic.{◌⊎◌, inl, inr}
 use mathlib.Core.Bool.{Bool, true, false, not, false≢true}
-use mathlib.Core.List.{List, ◌∷◌, Memᴰ}
+use mathlib.Core.List.{List, [], ◌∷◌, Memᴰ}
 use mathlib.Core.Option.{some, some-injective}
 use Prim.Native.Nat.{ℕ, ◌<◌}
 use native.Mathlib.Omega.{arith}
 use lib.Dec.{eqb}
+use Rattle.checkpoint.specs.Checkpoint.{checkpoint_bytes}
 use Rattle.lists.proofs.Tests.{cond_cases}
 use Rattle.state.specs.declared.State.{State}
 use Rattle.records.specs.declared.AnnouncementRead.{AnnouncementRead}
@@ -134,7 +135,7 @@ module _ (first : List ℕ) (calls : History) (park : Park first calls) (g : Hos
 
         at : ((run w (checkpoint h out)).after ≡ w) ⊎ Gave w h (run w (checkpoint h out)).after → Held w g x
         at (inl k) = unmoved w _ g x k e
-        at (inr k) = record { node = x; held = sym (still g _) ∙ ap (λ (z : Cluster). node_at z g) (sym k.given) ∙ e; becomes = stays refl }
+        at (inr k) = record { node = x; held = sym (still g (checkpoint_bytes k.node.state)) ∙ ap (λ (z : Cluster). node_at z g) (sym k.given) ∙ e; becomes = stays refl }
 
 -- ---- a vote that is kept
 
@@ -227,12 +228,14 @@ module _ (c : ℕ) (ab : List ℕ) where
     up w (d ∷ cs) u within (past free r) k =
         up (run w d).after cs u (λ t m. within t (Memᴰ.tail m)) r
         (kept-call (record { before = w; call = d }) (within _ (Memᴰ.head refl)) free k)
+    up w [] u within x3 k = elim x3 [ ]
 
     between : (w : Cluster) (cs : History) (t u : Moment) → ((s : Moment) → Memᴰ s (moments_from w cs) → s ∈ calls)
         → Between (NoStart g) t u (moments_from w cs) → Kept (after t) → Kept u.before
     unfolding moments_from
     between w (d ∷ cs) t u within (from r) k = up (run w d).after cs u (λ s m. within s (Memᴰ.tail m)) r k
     between w (d ∷ cs) t u within (later r) k = between (run w d).after cs t u (λ s m. within s (Memᴰ.tail m)) r k
+    between w [] t u within x3 k = elim x3 [ ]
 
 -- ---- two votes
 

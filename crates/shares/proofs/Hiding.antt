@@ -63,6 +63,6 @@ pub hides : (n : ℕ) (xs : List ℕ) → n ≤ most_shares → AreNumbers n xs 
 hides n xs h a byte hb = byte-bijection xs (numbers-bytes n xs h a) (distinct-zero n xs a) byte hb
 
 pub fewer-shares-hide-the-byte : FewerSharesHideTheByte
-fewer-shares-hide-the-byte k n r xs f byte hb =
-    subst (λ (m : ℕ). Bijection m (λ cs. values (byte ∷ cs) xs)) (let s : length xs ≡ k - 1 = omega (arith, f.size) in s)
-    (hides n xs r.n-below f.numbers byte hb)
+fewer-shares-hide-the-byte k n r xs size numbers byte hb =
+    subst (λ (m : ℕ). Bijection m (λ cs. values (byte ∷ cs) xs)) (let s : length xs ≡ k - 1 = omega (arith, size) in s)
+    (hides n xs r.n-below numbers byte hb)

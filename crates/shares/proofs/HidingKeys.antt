@@ -128,4 +128,4 @@ module _ (k n : ℕ) (r : InRange k n) (xs : List ℕ) (e : suc (length xs) ≡ 
       (record { into = into; onto = λ s h. (cs s h, cs-run s h, gives s h); one-to-one = one-to-one })
 
 pub fewer-shares-hide-the-key : FewerSharesHideTheKey
-fewer-shares-hide-the-key k n r xs f key hk out room = bijection k n r xs f.size f.numbers key hk out room
+fewer-shares-hide-the-key k n r xs size numbers key hk out room = bijection k n r xs size numbers key hk out room

@@ -23,8 +23,8 @@ use Rattle.shares.proofs.Bijections.{run-sums, same_map, after-sum, in-turn, one
 pub renewal-hides-the-byte : RenewalHidesTheByte
 unfolding sums
 renewal-hides-the-byte k n r old new p q byte h =
-    let before = fewer-shares-hide-the-byte k n r old p byte h in
-    let after = fewer-shares-hide-the-byte k n r new q byte h in
+    let before = fewer-shares-hide-the-byte k n r old p.size p.numbers byte h in
+    let after = fewer-shares-hide-the-byte k n r new q.size q.numbers byte h in
     in-turn (k - 1) (k - 1) (λ cs. values (byte ∷ cs) old) (λ cs zs. values (sums (byte ∷ cs) (0 ∷ zs)) new) before
     (λ cs run.
     same_map (k - 1) (λ zs. values (sums (byte ∷ cs) (0 ∷ zs)) new) (λ zs. values (byte ∷ sums cs zs) new)
@@ -57,7 +57,7 @@ module _ (k n : ℕ) (r : InRange k n) (key : List ℕ) (hk : IsRun key_size key
       (same_map each (λ zs. chosen (renewed k n room shares zs) numbers) (λ zs. chosen (split_of key k n (sums cs zs) room).slice numbers)
       (λ zs h. ap (λ (l : List ℕ). chosen l numbers) (renewed-again cs out zs run lo h))
       (after-sum each cs run (λ ds. chosen (split_of key k n ds room).slice numbers)
-      (fewer-shares-hide-the-key k n r numbers (fewer numbers (Memᴰ.head refl)) key hk room lr)))
+      (let few = fewer numbers (Memᴰ.head refl) in fewer-shares-hide-the-key k n r numbers few.size few.numbers key hk room lr)))
       (λ zs h.
       subst (λ (l : List ℕ). Bijection (each * length visits) (taken k n room l visits)) (sym (renewed-again cs out zs run lo h))
       (hides-visits visits (λ xs m. fewer xs (Memᴰ.tail m)) (sums cs zs) room (run-sums each cs zs run h) lr))
@@ -65,5 +65,5 @@ module _ (k n : ℕ) (r : InRange k n) (key : List ℕ) (hk : IsRun key_size key
 pub renewals-hide-the-key : RenewalsHideTheKey
 renewals-hide-the-key k n r first f visits fewer key hk out room lo lr =
     one_more (key_size * (k - 1)) (length visits) (λ cs. chosen (split_of key k n cs out).slice first)
-    (λ cs. taken k n room (split_of key k n cs out).slice visits) (fewer-shares-hide-the-key k n r first f key hk out lo)
+    (λ cs. taken k n room (split_of key k n cs out).slice visits) (fewer-shares-hide-the-key k n r first f.size f.numbers key hk out lo)
     (λ cs h. hides-visits k n r key hk room lr visits fewer cs out h lo)

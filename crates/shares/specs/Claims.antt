@@ -44,10 +44,12 @@ abbrev pub AnyGive : ℕ → ℕ → List ℕ → List ℕ → Type 0
 AnyGive k n slice key = (numbers rest key_out : List ℕ) → k ≤ length numbers → AreNumbers n (take k numbers) → key_size ≤ length key_out
     → merge_of k n numbers (chosen slice (take k numbers) ++ rest) key_out ≡ record { answer = Merge.Given; slice = overwrite key key_out }
 
--- "Any k shares give the key back.": those of what a split left in its slice.
+-- "Any k shares give the key back.": of what a split left in its slice, the shares with any k numbers, in any order, and whatever follows them.
 abbrev pub AnySharesGiveTheKey : Type 0
 AnySharesGiveTheKey = (key : List ℕ) (k n : ℕ) (cs out : List ℕ) → Bytes key → Bytes cs → (split_of key k n cs out).answer ≡ Split.Given n
-    → AnyGive k n (split_of key k n cs out).slice (take key_size key)
+    → (numbers rest key_out : List ℕ) → k ≤ length numbers → AreNumbers n (take k numbers) → key_size ≤ length key_out
+    → merge_of k n numbers (chosen (split_of key k n cs out).slice (take k numbers) ++ rest) key_out
+    ≡ record { answer = Merge.Given; slice = overwrite (take key_size key) key_out }
 
 -- ---- k-1 shares
 
@@ -70,13 +72,13 @@ pub record Bijection (m : ℕ) (f : List ℕ → List ℕ) : Type 0 where
 -- "For k-1 shares and each candidate key byte, exactly one choice of coefficients gives those shares.": at any k-1 numbers, and for each key byte, the
 -- choices of its coefficients and the shares stand one to one.
 abbrev pub FewerSharesHideTheByte : Type 0
-FewerSharesHideTheByte = (k n : ℕ) → InRange k n → (numbers : List ℕ) → Fewer k n numbers → (byte : ℕ) → byte < 256
+FewerSharesHideTheByte = (k n : ℕ) → InRange k n → (numbers : List ℕ) → suc (length numbers) ≡ k → AreNumbers n numbers → (byte : ℕ) → byte < 256
     → Bijection (k - 1) (λ cs. values (byte ∷ cs) numbers)
 
 -- The same of whole keys and of what a split leaves in its slice: whatever the k-1 shares are, each key has exactly one choice of coefficients that
 -- gives them. So who holds k-1 shares, of a split whose coefficients were drawn with equal chances, knows no more of the key than before.
 abbrev pub FewerSharesHideTheKey : Type 0
-FewerSharesHideTheKey = (k n : ℕ) → InRange k n → (numbers : List ℕ) → Fewer k n numbers
+FewerSharesHideTheKey = (k n : ℕ) → InRange k n → (numbers : List ℕ) → suc (length numbers) ≡ k → AreNumbers n numbers
     → (key : List ℕ) → IsRun key_size key → (out : List ℕ) → key_size * n ≤ length out
     → Bijection (key_size * (k - 1)) (λ cs. chosen (split_of key k n cs out).slice numbers)
 

@@ -1,10 +1,5 @@
-use Prim.Native.Nat.{◌-◌}
-use mathlib.Core.Path.{◌≡◌, refl, sym, ap, ◌∙◌}
+use mathlib.Core.Path.{refl, sym, ap, ◌∙◌}
 use mathlib.Core.Bool.{Bool, ◌&&◌, and_assoc, and-true}
-use lib.Dec.{eqb}
-use lib.ListN.{length, drop}
-use borrow.Author.Rules.{rules}
-use Rattle.lists.specs.Fold.{all}
 use Rattle.lists.proofs.Loops.{all-turn, all_end}
 use Rattle.binary.specs.Number.{is_zero_from}
 use Rattle.binary.proofs.is_zero_from.Goals as goal

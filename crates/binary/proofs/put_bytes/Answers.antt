@@ -1,9 +1,5 @@
 use mathlib.Core.Path.{refl}
-use Rattle.binary.proofs.Copies.{Copied, copied_none, copied-one, copied_all}
-use Prim.Native.Nat.{◌-◌}
-use native.Mathlib.Omega.{arith}
-use borrow.Author.Rules.{rules}
-use lib.ListN.{length}
+use Rattle.binary.proofs.Copies.{copied_none, copied-one, copied_all}
 use Rattle.binary.proofs.put_bytes.Goals as goal
 
 pub loop-i-init : goal.loop-i-init

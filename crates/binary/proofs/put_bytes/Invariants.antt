@@ -1,8 +1,5 @@
-use mathlib.Core.Path.{refl}
-use Rattle.binary.proofs.Copies.{Copied, copied_none, copied-one, copied_all}
+use Rattle.binary.proofs.Copies.{Copied}
 use Prim.Native.Nat.{◌-◌}
-use native.Mathlib.Omega.{arith}
-use borrow.Author.Rules.{rules}
 use lib.ListN.{length}
 use Rattle.binary.proofs.put_bytes.Given as goal
 

@@ -1,7 +1,6 @@
 use native.Mathlib.Omega.{arith}
 use Rattle.binary.proofs.Splices.{then-put}
 use Rattle.binary.proofs.Number.{number-length, bytes_halves}
-use borrow.Author.Rules.{rules}
 use Rattle.binary.proofs.put_u64.Goals as goal
 
 pub returns : goal.returns

@@ -1,4 +1,3 @@
-use borrow.Author.Rules.{rules}
 use Rattle.binary.proofs.Splices.{splice-stores}
 use Rattle.binary.proofs.put_u8.Goals as goal
 

@@ -1,4 +1,3 @@
-use borrow.Author.Rules.{rules}
 use native.Mathlib.Omega.{arith}
 use Rattle.binary.proofs.Number.{number_at}
 use Rattle.binary.proofs.u16_at.Goals as goal

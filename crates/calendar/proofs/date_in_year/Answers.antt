@@ -1,6 +1,5 @@
 use native.Mathlib.Omega.{arith}
 use Rattle.calendar.proofs.Formulas.{year-at-most, month-found, date-in-year}
-use borrow.Author.Rules.{rules}
 use Rattle.calendar.proofs.date_in_year.Goals as goal
 
 pub stretched-at-requires : goal.stretched-at-requires

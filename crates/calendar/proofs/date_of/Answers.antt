@@ -2,7 +2,6 @@ use mathlib.Core.Path.{sym, ap, ◌∙◌}
 use Rattle.calendar.specs.Calendar.{date_of}
 use native.Mathlib.Omega.{arith}
 use Rattle.calendar.proofs.Formulas.{fourth-is-leap, year-found, day-of-year}
-use borrow.Author.Rules.{rules}
 use Rattle.calendar.proofs.date_of.Goals as goal
 
 pub date_in_year-requires : goal.date_in_year-requires

@@ -1,5 +1,4 @@
 use Rattle.calendar.specs.Text.{day_text}
-use borrow.Author.Rules.{rules}
 use Rattle.calendar.proofs.put_day.Goals as goal
 
 pub returns : goal.returns

@@ -1,6 +1,5 @@
 use Rattle.lists.proofs.Cases.{cases}
 use Rattle.calendar.specs.Code.{stretched}
-use borrow.Author.Rules.{rules}
 use Rattle.calendar.proofs.stretched.Goals as goal
 
 pub returns-then-day-lt60 : goal.returns-then-day-lt60

@@ -1,5 +1,4 @@
-use Rattle.decimal.proofs.Stored.{Stored, stored-none, stored_one, stored-all}
-use native.Mathlib.Omega.{arith}
+use Rattle.decimal.proofs.Stored.{stored-none, stored_one, stored-all}
 use Rattle.decimal.proofs.digits_of.Goals as goal
 
 pub loop-rest-init : goal.loop-rest-init

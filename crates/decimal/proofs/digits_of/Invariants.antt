@@ -1,5 +1,4 @@
-use Rattle.decimal.proofs.Stored.{Stored, stored-none, stored_one, stored-all}
-use native.Mathlib.Omega.{arith}
+use Rattle.decimal.proofs.Stored.{Stored}
 use Rattle.decimal.proofs.digits_of.Given as goal
 
 abbrev pub invariant-loop-rest : goal.invariant-loop-rest

@@ -1,7 +1,6 @@
 use Prim.Native.Nat.{◌<◌, ◌^◌}
 use native.Mathlib.Nat.{pow-le-pow_right, div-eq_of_lt}
 use native.Mathlib.Omega.{arith}
-use borrow.Author.Rules.{rules}
 use Rattle.state.proofs.is_held.Goals as goal
 
 pub returns-then-right-ge-RIGHTS : goal.returns-then-right-ge-RIGHTS

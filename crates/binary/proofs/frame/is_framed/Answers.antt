@@ -1,5 +1,4 @@
 use Rattle.lists.proofs.Cases.{cases}
-use borrow.Author.Rules.{rules}
 use Rattle.binary.proofs.frame.is_framed.Goals as goal
 
 pub returns-then-b-n : goal.returns-then-b-n

@@ -1,7 +1,6 @@
 use native.Mathlib.Omega.{arith}
 use mathlib.Core.Path.{sym, ◌∙◌}
 use Rattle.binary.proofs.Frames.{framed-length}
-use borrow.Author.Rules.{rules}
 use Rattle.binary.proofs.frame.is_record.Goals as goal
 
 pub u16_at-requires : goal.u16_at-requires

@@ -1,4 +1,3 @@
-use borrow.Author.Rules.{rules}
 use Rattle.calendar.proofs.reading.are_digits.Goals as goal
 
 pub returns : goal.returns

@@ -1,6 +1,5 @@
 use mathlib.Core.Path.{sym}
 use Rattle.calendar.proofs.Characters.{is-like, date-at}
-use borrow.Author.Rules.{rules}
 use Rattle.calendar.proofs.reading.date_in.Goals as goal
 
 pub two_digits-hundred-requires : goal.two_digits-hundred-requires

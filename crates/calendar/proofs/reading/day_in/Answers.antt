@@ -1,13 +1,9 @@
 use mathlib.Core.Path.{◌≡◌, sym, ap, ◌∙◌}
-use mathlib.Core.Bool.{true, cond}
-use mathlib.Core.List.{List}
+use mathlib.Core.Bool.{cond}
 use mathlib.Core.Option.{Option, none, some}
 use Prim.Native.Nat.{ℕ}
-use borrow.Author.Rules.{rules}
-use borrow.Author.Tests.{not-true, not-false}
 use Rattle.calendar.specs.declared.Date.{Date}
 use Rattle.calendar.specs.Calendar.{day_of}
-use Rattle.calendar.specs.Code.{is_date_like}
 use Rattle.calendar.specs.Text.{is_date, day_in}
 use Rattle.calendar.proofs.Characters.{is-like, day-like, not-ten, not-like}
 use Rattle.calendar.proofs.reading.day_in.Goals.{After-date_in-date}

@@ -1,6 +1,5 @@
 use native.Mathlib.Omega.{arith}
 use Rattle.calendar.proofs.Formulas.{counted}
-use borrow.Author.Rules.{rules}
 use Rattle.calendar.proofs.reading.day_of.Goals as goal
 
 pub overflow_sub-years : goal.overflow_sub-years

@@ -1,6 +1,5 @@
 use mathlib.Core.Path.{sym}
 use Rattle.calendar.proofs.Formulas.{winter-before, leap-before, common-before}
-use borrow.Author.Rules.{rules}
 use Rattle.calendar.proofs.reading.days_before.Goals as goal
 
 pub returns-then-month-lt2 : goal.returns-then-month-lt2

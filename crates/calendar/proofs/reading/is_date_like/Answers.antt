@@ -1,5 +1,4 @@
 use Rattle.calendar.specs.Code.{is_date_like}
-use borrow.Author.Rules.{rules}
 use Rattle.calendar.proofs.reading.is_date_like.Goals as goal
 
 pub returns : goal.returns

@@ -1,6 +1,5 @@
 use native.Mathlib.Omega.{arith}
 use Rattle.calendar.proofs.Characters.{digits-range}
-use borrow.Author.Rules.{rules}
 use Rattle.calendar.proofs.reading.two_digits.Goals as goal
 
 pub overflow_sub-result : goal.overflow_sub-result

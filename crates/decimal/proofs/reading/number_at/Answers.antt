@@ -1,7 +1,6 @@
 use mathlib.Core.Path.{sym, ◌∙◌}
 use native.Mathlib.Omega.{arith}
-use borrow.Author.Tests.{not-true, not-false}
-use Rattle.decimal.proofs.Scanned.{Scanned, scanned-none, scanned-short, scanned-more, digit-range, scanned-one, scanned-other, scanned-all}
+use Rattle.decimal.proofs.Scanned.{scanned-none, scanned-short, scanned-more, digit-range, scanned-one, scanned-other, scanned-all}
 use Rattle.decimal.proofs.reading.number_at.Goals as goal
 
 pub loop-left-init : goal.loop-left-init

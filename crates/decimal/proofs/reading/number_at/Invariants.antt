@@ -1,7 +1,4 @@
-use mathlib.Core.Path.{sym, ◌∙◌}
-use native.Mathlib.Omega.{arith}
-use borrow.Author.Tests.{not-true, not-false}
-use Rattle.decimal.proofs.Scanned.{Scanned, scanned-none, scanned-short, scanned-more, digit-range, scanned-one, scanned-other, scanned-all}
+use Rattle.decimal.proofs.Scanned.{Scanned}
 use Rattle.decimal.proofs.reading.number_at.Given as goal
 
 abbrev pub invariant-loop-left : goal.invariant-loop-left

@@ -1,5 +1,4 @@
 use Rattle.lists.proofs.Cases.{cases}
-use borrow.Author.Rules.{rules}
 use Rattle.state.proofs.Cycle.next.Goals as goal
 
 pub returns-then-self-lt-LAST_CYCLE : goal.returns-then-self-lt-LAST_CYCLE

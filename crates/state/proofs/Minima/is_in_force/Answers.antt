@@ -1,5 +1,4 @@
 use Rattle.state.specs.Minima.{is_in_force}
-use borrow.Author.Rules.{rules}
 use Rattle.state.proofs.Minima.is_in_force.Goals as goal
 
 pub returns : goal.returns

@@ -1,4 +1,3 @@
-use borrow.Author.Rules.{rules}
 use Rattle.state.proofs.Minima.set_over.Goals as goal
 
 pub returns : goal.returns

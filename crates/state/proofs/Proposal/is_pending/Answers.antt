@@ -1,4 +1,3 @@
-use borrow.Author.Rules.{rules}
 use Rattle.state.proofs.Proposal.is_pending.Goals as goal
 
 pub returns : goal.returns

@@ -2,7 +2,6 @@ use mathlib.Core.Path.{sym, ◌∙◌}
 use Rattle.lists.proofs.Cases.{cases}
 use mathlib.Core.Bool.{or-false}
 use Rattle.state.specs.Subjects.{is_subject}
-use borrow.Author.Rules.{rules}
 use Rattle.state.proofs.Subject.is_well_formed.Goals as goal
 
 pub returns-in-4 : goal.returns-in-4

@@ -1,11 +1,8 @@
-use Prim.Native.Nat.{◌+◌, ◌-◌, ◌≤◌, ◌<◌}
-use mathlib.Core.Path.{◌≡◌, sym, ◌∙◌}
-use mathlib.Core.Logic.{⊎_elim}
+use Prim.Native.Nat.{◌≤◌, ◌<◌}
+use mathlib.Core.Path.{sym, ◌∙◌}
 use native.Mathlib.Omega.{arith}
-use lib.ListN.{length, drop}
-use Rattle.lists.specs.Fold.{count}
+use lib.ListN.{length}
 use Rattle.lists.proofs.Loops.{count-pass, count-fail, count-end}
-use Rattle.state.specs.Limits.{seat_count}
 use Rattle.state.specs.Seats.{is_present, present_seats}
 use borrow.Author.Rules.{rules}
 use Rattle.state.proofs.seats.present_seats.Goals.{else-is_present, then-is_present}

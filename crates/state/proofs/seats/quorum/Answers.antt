@@ -1,6 +1,5 @@
 use native.Mathlib.Omega.{arith}
 use Rattle.state.specs.Seats.{quorum}
-use borrow.Author.Rules.{rules}
 use Rattle.state.proofs.seats.quorum.Goals as goal
 
 pub returns-then-majority-least : goal.returns-then-majority-least

@@ -1,5 +1,4 @@
 use Rattle.state.specs.Subjects.{is_certify}
-use borrow.Author.Rules.{rules}
 use Rattle.state.proofs.subjects.is_certify.Goals as goal
 
 pub returns : goal.returns

@@ -1,5 +1,4 @@
 use Rattle.state.specs.Subjects.{is_minima}
-use borrow.Author.Rules.{rules}
 use Rattle.state.proofs.subjects.is_minima.Goals as goal
 
 pub returns : goal.returns

@@ -1,5 +1,4 @@
 use Rattle.state.specs.Trustees.{is_majority}
-use borrow.Author.Rules.{rules}
 use Rattle.state.proofs.trustees.is_majority.Goals as goal
 
 pub returns : goal.returns

@@ -1,9 +1,6 @@
 use Prim.Native.Nat.{◌+◌, ◌≤◌}
 use mathlib.Core.Path.{◌≡◌}
-use native.Mathlib.Omega.{arith}
 use Rattle.state.specs.Trustees.{ones_below}
-use Rattle.state.proofs.TrusteeMasks.{ones-turn, ones-end}
-use borrow.Author.Rules.{rules}
 use Rattle.state.proofs.trustees.ones_below.Given as goal
 
 abbrev pub invariant-loop-left : goal.invariant-loop-left

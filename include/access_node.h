@@ -53,8 +53,8 @@
  *
  * Target. libnode_c.a is for x86-64 (System V ABI, ELF) and for nothing else. It uses SSE2
  * registers and the red zone below the stack pointer, so a call needs a stack of its own that is
- * aligned as the ABI says, and an interrupt handler saves those registers. It calls memcpy and no
- * other function, so it needs no C library beyond that one, and has no unwind tables.
+ * aligned as the ABI says, and an interrupt handler saves those registers. It calls memcpy and
+ * memset and no other function, so it needs no C library beyond these two, and has no unwind tables.
  */
 #ifndef ACCESS_NODE_H
 #define ACCESS_NODE_H
@@ -177,7 +177,7 @@ extern "C" {
 /* Starts a node from a checkpoint of either kind, at the seat and under the life of a start record.
  * Refusals: 1, 22, 9, 14. Writes the image with 0: no vote, no misses. A refused start makes no
  * node. */
-#define ACCESS_NODE_STACK_START 7168
+#define ACCESS_NODE_STACK_START 8192
 uint32_t node_start(const uint8_t *checkpoint, size_t checkpoint_length,
                     const uint8_t *start, size_t start_length,
                     uint8_t *image_out, size_t image_out_length);
@@ -185,7 +185,7 @@ uint32_t node_start(const uint8_t *checkpoint, size_t checkpoint_length,
 /* Delivers an announcement with its sheet: performs it where the sheet shows a quorum, else votes.
  * Refusals: 1, 2, 22, 3 to 16. Writes the image with 0, then with no vote and no misses, and with
  * ACCESS_NODE_VOTED. */
-#define ACCESS_NODE_STACK_DELIVER 11264
+#define ACCESS_NODE_STACK_DELIVER 16384
 uint32_t node_deliver(const uint8_t *image, size_t image_length,
                       const uint8_t *announcement, size_t announcement_length,
                       const uint8_t *sheet, size_t sheet_length,
@@ -194,14 +194,14 @@ uint32_t node_deliver(const uint8_t *image, size_t image_length,
 /* Asks at a door whether a login may use a right on a day.
  * Refusals: 1 (also for a door above 3), 22, 3, 17 to 21. Writes the image with 0, the misses of
  * that door 0, and with 19 to 21, one more; those of the other doors stay. */
-#define ACCESS_NODE_STACK_QUERY 5120
+#define ACCESS_NODE_STACK_QUERY 7168
 uint32_t node_query(const uint8_t *image, size_t image_length,
                     const uint8_t *query, size_t query_length,
                     uint8_t *image_out, size_t image_out_length);
 
 /* Gives the checkpoint of the node's state, of kind 26 whatever kind the node was started from.
  * Refusals: 1, 22. Writes the checkpoint with 0. */
-#define ACCESS_NODE_STACK_CHECKPOINT 4096
+#define ACCESS_NODE_STACK_CHECKPOINT 5120
 uint32_t node_checkpoint(const uint8_t *image, size_t image_length,
                          uint8_t *checkpoint_out, size_t checkpoint_out_length);
 
@@ -209,7 +209,7 @@ uint32_t node_checkpoint(const uint8_t *image, size_t image_length,
  * count from 1970-01-01. A slice of ACCESS_NODE_PAGE_SIZE(ACCESS_NODE_MOST_LOGINS) bytes holds every
  * page; there is no zero byte behind it. Halted nodes and those with locked doors give it too.
  * Refusals: 1, 23. Writes the page with 0, and no image; ACCESS_NODE_COUNT is its number of lines. */
-#define ACCESS_NODE_STACK_PAGE 4096
+#define ACCESS_NODE_STACK_PAGE 6144
 uint32_t node_page(const uint8_t *image, size_t image_length, uint32_t day,
                    uint8_t *page_out, size_t page_out_length);
 

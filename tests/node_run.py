@@ -1,4 +1,4 @@
-"""Runs the program node-run as only a pipe can show: input that is cut anywhere, comes in pieces or in turns, or is large.
+"""Runs the program node-run as only a pipe can show: input that is cut anywhere, comes in pieces or in turns, or is large; reads and writes that fail.
 
 The requests and their lines are those of crates/node_run/stdin and stdout, which corpus/node-run.txt says in words; the first six are the
 printed run.
@@ -16,6 +16,7 @@ import subprocess
 import sys
 
 PATIENCE = 10  # seconds for one run
+MOST_AFTER = 200_000  # requests that are sent after those whose lines can't be written
 MOST_FAILURES = 20  # after these the rest is left: each may have taken all that time
 GREATEST_SIZE = 65537  # of a record: the length field, and 65,535 bytes after it
 QUERIES = (20, 21)  # kinds of a request of one record
@@ -149,6 +150,31 @@ def run_in_turns(program, requests):
             process.kill()
 
 
+def run_from_folder(program):
+    """All that it prints where every read fails, as of a folder, which ends the input."""
+    folder = os.open(CRATE, os.O_RDONLY)
+    try:
+        ended = subprocess.run([program], stdin=folder, capture_output=True, timeout=PATIENCE)
+    finally:
+        os.close(folder)
+    return ended.stdout + ended.stderr + b"exit status %d\n" % ended.returncode
+
+
+def run_to_full_disk(program, requests, more):
+    """What it says where every write fails, which ends the run although the input goes on for as long as it is read."""
+    with open("/dev/full", "wb") as full:
+        with subprocess.Popen([program], stdin=subprocess.PIPE, stdout=full, stderr=subprocess.PIPE, bufsize=0) as process:
+            try:
+                process.stdin.write(b"".join(data for data, _ in requests))
+                for _ in range(MOST_AFTER):
+                    process.stdin.write(more)
+                return b"the input is still read\n"
+            except BrokenPipeError:
+                return process.stderr.read() + b"exit status %d\n" % process.wait(PATIENCE)
+            finally:
+                process.kill()
+
+
 def difference(got, wanted):
     """The first line that is not as wanted, or None."""
     if got == wanted:
@@ -168,6 +194,8 @@ def checks(program):
     for size in (1, 2, 3, 7, 13, 24, 1000, 1109, 1111, 4096):
         yield f"in pieces of {size} bytes", lambda size=size: difference(run_in_pieces(program, table, size), lines)
     yield "in turns", lambda: difference(run_in_turns(program, requests), lines)
+    yield "a read that fails", lambda: difference(run_from_folder(program), b"exit status 0\n")
+    yield "a write that fails", lambda: difference(run_to_full_disk(program, PRINTED_RUN, OPEN[0]), b"exit status 0\n")
 
 
 def outcome(check):

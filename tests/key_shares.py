@@ -395,6 +395,11 @@ def check_refused_splits(folder):
         folder.refuses(1, "32 bytes", "split", 2, 3, folder.write(f"key-{size}", bytes(size)), "new")
     folder.refuses(1, "nowhere: No such file", "split", 2, 3, "nowhere", "new")
     folder.refuses(1, ".: Is a directory", "split", 2, 3, ".", "new")
+    folder.refuses(1, "nowhere/new.1: No such file", "split", 2, 3, "key", "nowhere/new")
+    folder.refuses(1, "PREFIX: too long for a path", "split", 2, 3, "key", "x" * 5000)
+    folder.refuses(1, "new.1: File too large", "split", 2, 3, "key", "new", **limited(resource.RLIMIT_FSIZE, SHARE_FILE - 1))
+    with open("/dev/full", "wb") as full:
+        folder.refuses(1, "standard output: No space", "split", 2, 3, "key", "new", stdout=full)
     check_refused_prefixes(folder, SHARE_FILE, "split", 2, 16, "key")
 
 
@@ -402,6 +407,8 @@ def check_refused_merges(folder):
     good = folder.read("good.1")
     check_refused_files(folder, "share", lambda name: ("merge", "merged", name, "good.2"))
     check_refused_files(folder, "share", lambda name: ("merge", "merged", "good.1", "good.2", name))
+    folder.refuses(1, "nowhere: No such file", "merge", "merged", "good.1", "nowhere")
+    folder.refuses(1, ".: Is a directory", "merge", "merged", ".", "good.1")
     folder.refuses(1, "a share comes twice", "merge", "merged", "good.1", "good.1")
     folder.refuses(1, "a share comes twice", "merge", "merged", "good.2", "good.2", "good.1")
     folder.refuses(1, "2 share files are needed, not 1", "merge", "merged", "good.3")

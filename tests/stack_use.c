@@ -41,7 +41,7 @@ static size_t room;
 
 static uint8_t stack[STACK];
 static ucontext_t caller;
-static size_t measured[CALLS], deepest[CALLS];
+static size_t deepest[CALLS];
 
 static void make(void) {
     if (call == START)
@@ -97,7 +97,6 @@ static void measure(size_t output_length) {
     room = output_length;
     make_on_stack();
     size_t used = bytes_used() - base;
-    measured[call]++;
     if (used > deepest[call])
         deepest[call] = used;
 }
@@ -149,12 +148,11 @@ static int read_call(void) {
     return 1;
 }
 
-/* Whether the call was measured, and stays below what is stated. It may use nothing. */
+/* Whether the call was measured, and stays below what is stated. */
 static int is_stated(enum call c) {
-    if (measured[c] > 0 && deepest[c] + SPARE <= stated[c])
+    if (deepest[c] > 0 && deepest[c] + SPARE <= stated[c])
         return 1;
-    printf("%s uses %zu bytes of stack, measured %zu times, with %d to spare, and access_node.h states %zu\n", names[c], deepest[c], measured[c],
-           SPARE, stated[c]);
+    printf("%s uses %zu bytes of stack, with %d to spare, and access_node.h states %zu\n", names[c], deepest[c], SPARE, stated[c]);
     return 0;
 }
 

@@ -9,12 +9,10 @@ loop-i-init c = refl
 
 pub loop-i-preserved : goal.loop-i-preserved
 loop-i-preserved c =
-    let l = c in
-    let turn = all-turn _ l.args.b.now l.loop-i.i 0 c.loop-i-test.true in
-    l.loop-i.invariant ∙ ap (λ (t : Bool). l.loop-i.zero && t) turn ∙ sym (and_assoc l.loop-i.zero _ _)
+    let turn = all-turn _ c.args.b.now c.loop-i.i 0 c.loop-i-test.true in
+    c.loop-i.invariant ∙ ap (λ (t : Bool). c.loop-i.zero && t) turn ∙ sym (and_assoc c.loop-i.zero _ _)
 
 pub returns : goal.returns
 unfolding is_zero_from
 returns c =
-    let l = c in
-    sym (l.loop-i.invariant ∙ rw (all_end _ l.args.b.now l.loop-i.i c.loop-i-test.false) (and-true l.loop-i.zero))
+    sym (c.loop-i.invariant ∙ rw (all_end _ c.args.b.now c.loop-i.i c.loop-i-test.false) (and-true c.loop-i.zero))

@@ -7,8 +7,7 @@ loop-i-init c = copied_none _ _ _
 
 pub loop-i-preserved : goal.loop-i-preserved
 loop-i-preserved c =
-    let begun = c in
-    copied-one _ _ _ _ _ c.loop-i.invariant begun.requires c.loop-i-test.true
+    copied-one _ _ _ _ _ c.loop-i.invariant c.requires c.loop-i-test.true
 
 pub shape_of-out : goal.shape_of-out
 shape_of-out c = c.loop-i.invariant.same_length

@@ -5,7 +5,5 @@ use Rattle.binary.proofs.put_u64.Goals as goal
 
 pub returns : goal.returns
 returns c =
-    let second = c in
-    let first = second in
-    rw (← bytes_halves first.args.x)
-    (then-put _ _ _ _ _ _ _ second.put_u32-2.ensures first.put_u32.ensures (simp number-length) (omega arith))
+    rw (← bytes_halves c.args.x)
+    (then-put _ _ _ _ _ _ _ c.put_u32-2.ensures c.put_u32.ensures (simp number-length) (omega arith))

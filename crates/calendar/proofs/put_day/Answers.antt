@@ -4,6 +4,4 @@ use Rattle.calendar.proofs.put_day.Goals as goal
 pub returns : goal.returns
 unfolding day_text
 returns c =
-    let p = c.before.before in
-    let t = p.before.before.before in
-    rw (t.date_text-text.ensures, t.date_of.ensures) at p.put_bytes.ensures.out_after
+    rw (c.date_text-text.ensures, c.date_of.ensures) at c.put_bytes.ensures.out_after

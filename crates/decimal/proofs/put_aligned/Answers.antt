@@ -14,10 +14,8 @@ slice_bounds-put_bytes-end c =
 
 pub returns : goal.returns
 returns c =
-    let p = c in
-    let s = p in
-    let h = s.digits_of-digits.ensures in
-    let q = s.requires in
-    let a = s.args in
+    let h = c.digits_of-digits.ensures in
+    let q = c.requires in
+    let a = c.args in
     let l = length-below a.width a.x q.0 q.1.0 q.1.1.0 in
-    rw (last-places _ _ _ h.0 h.1 (most_digits - a.width) a.width (omega arith) l) at p.put_bytes.ensures.out_after
+    rw (last-places _ _ _ h.0 h.1 (most_digits - a.width) a.width (omega arith) l) at c.put_bytes.ensures.out_after

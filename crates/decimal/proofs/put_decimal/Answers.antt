@@ -10,6 +10,5 @@ slice_bounds-put_bytes-end c =
 
 pub returns : goal.returns
 returns c =
-    let p = c in
-    let h = p.digits_of-digits.ensures in
-    rw (all_digits _ _ _ h.0 h.1) at p.put_bytes.ensures
+    let h = c.digits_of-digits.ensures in
+    rw (all_digits _ _ _ h.0 h.1) at c.put_bytes.ensures

@@ -49,39 +49,48 @@ end_check-requires c = of-kind (goal.at.end_check-requires c).After-notice_refus
 
 pub returns-in-1 : goal.returns-in-1
 returns-in-1 c =
-    arm (goal.at.returns-in-1 c).After-notice_refusal-notice 1 _ _ _ c.in-1.is c.trustee_refusal-level1.ensures (c.propose_check.ensures c.args.d) c.refusal.ensures
+    arm (goal.at.returns-in-1 c).After-notice_refusal-notice 1 _ _ _ c.in-1.is c.trustee_refusal-level1.ensures
+    (c.propose_check.ensures c.args.d) c.refusal.ensures
 
 pub returns-in-2 : goal.returns-in-2
 returns-in-2 c =
-    arm (goal.at.returns-in-2 c).After-notice_refusal-notice 2 _ _ _ c.in-2.is c.trustee_refusal-level1.ensures (c.cancel_check.ensures c.args.d) c.refusal-in-2.ensures
+    arm (goal.at.returns-in-2 c).After-notice_refusal-notice 2 _ _ _ c.in-2.is c.trustee_refusal-level1.ensures
+    (c.cancel_check.ensures c.args.d) c.refusal-in-2.ensures
 
 pub returns-in-3 : goal.returns-in-3
 returns-in-3 c =
-    arm (goal.at.returns-in-3 c).After-notice_refusal-notice 3 _ _ _ c.in-3.is c.trustee_refusal-level1.ensures (c.presents_check.ensures c.args.d) c.refusal-in-3.ensures
+    arm (goal.at.returns-in-3 c).After-notice_refusal-notice 3 _ _ _ c.in-3.is c.trustee_refusal-level1.ensures
+    (c.presents_check.ensures c.args.d) c.refusal-in-3.ensures
 
 pub returns-in-4 : goal.returns-in-4
 returns-in-4 c =
-    arm (goal.at.returns-in-4 c).After-notice_refusal-notice 4 _ _ _ c.in-4.is c.trustee_refusal-level2.ensures (c.certify_check.ensures c.args.d) c.refusal-in-4.ensures
+    arm (goal.at.returns-in-4 c).After-notice_refusal-notice 4 _ _ _ c.in-4.is c.trustee_refusal-level2.ensures
+    (c.certify_check.ensures c.args.d) c.refusal-in-4.ensures
 
 pub returns-in-5 : goal.returns-in-5
 returns-in-5 c =
-    arm (goal.at.returns-in-5 c).After-notice_refusal-notice 5 _ _ _ c.in-5.is c.trustee_refusal-level2.ensures (c.minima_check.ensures c.args.d) c.refusal-in-5.ensures
+    arm (goal.at.returns-in-5 c).After-notice_refusal-notice 5 _ _ _ c.in-5.is c.trustee_refusal-level2.ensures
+    (c.minima_check.ensures c.args.d) c.refusal-in-5.ensures
 
 pub returns-in-6 : goal.returns-in-6
 returns-in-6 c =
-    arm (goal.at.returns-in-6 c).After-notice_refusal-notice 6 _ _ _ c.in-6.is c.trustee_refusal-level2.ensures (c.remove_check.ensures c.args.d) c.refusal-in-6.ensures
+    arm (goal.at.returns-in-6 c).After-notice_refusal-notice 6 _ _ _ c.in-6.is c.trustee_refusal-level2.ensures
+    (c.remove_check.ensures c.args.d) c.refusal-in-6.ensures
 
 pub returns-in-7 : goal.returns-in-7
 returns-in-7 c =
-    arm (goal.at.returns-in-7 c).After-notice_refusal-notice 7 _ _ _ c.in-7.is c.trustee_refusal-level1.ensures (c.rejoin_check.ensures c.args.d) c.refusal-in-7.ensures
+    arm (goal.at.returns-in-7 c).After-notice_refusal-notice 7 _ _ _ c.in-7.is c.trustee_refusal-level1.ensures
+    (c.rejoin_check.ensures c.args.d) c.refusal-in-7.ensures
 
 pub returns-in-8 : goal.returns-in-8
 returns-in-8 c =
-    arm (goal.at.returns-in-8 c).After-notice_refusal-notice 8 _ _ _ c.in-8.is c.trustee_refusal-level1.ensures (c.grant_check.ensures c.args.s c.requires.eviction) c.refusal-in-8.ensures
+    arm (goal.at.returns-in-8 c).After-notice_refusal-notice 8 _ _ _ c.in-8.is c.trustee_refusal-level1.ensures
+    (c.grant_check.ensures c.args.s c.requires.eviction) c.refusal-in-8.ensures
 
 pub returns-in-9 : goal.returns-in-9
 returns-in-9 c =
-    arm (goal.at.returns-in-9 c).After-notice_refusal-notice 9 _ _ _ c.in-9.is c.trustee_refusal-level1.ensures (c.end_check.ensures c.args.d) c.refusal-in-9.ensures
+    arm (goal.at.returns-in-9 c).After-notice_refusal-notice 9 _ _ _ c.in-9.is c.trustee_refusal-level1.ensures
+    (c.end_check.ensures c.args.d) c.refusal-in-9.ensures
 
 pub returns-in_default : goal.returns-in_default
 returns-in_default c =

@@ -18,16 +18,12 @@ two_digits-day-requires c =
 
 pub returns : goal.returns
 returns c =
-    let day = c.before in
-    let month = day.before.before.before in
-    let year = month.before.before.before in
-    let hundred = year.before.before.before in
-    let p = hundred.requires in
+    let p = c.requires in
     let s = date-at _ p.0 (is-like _ p.1) in
     rw (
       c.date_by.ensures,
-      day.two_digits-day.ensures,
-      month.two_digits-month.ensures,
-      year.two_digits-year.ensures,
-      hundred.two_digits-hundred.ensures,
+      c.two_digits-day.ensures,
+      c.two_digits-month.ensures,
+      c.two_digits-year.ensures,
+      c.two_digits-hundred.ensures,
     ) (sym s)

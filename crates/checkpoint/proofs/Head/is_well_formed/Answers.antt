@@ -4,5 +4,4 @@ use Rattle.checkpoint.proofs.Head.is_well_formed.Goals as goal
 pub returns : goal.returns
 unfolding is_head
 returns c =
-    let ranges = c.before.before.before.before in
-    rw (← ranges.is_before-started.ensures, ← ranges.is_in_force-ranges.ensures)
+    rw (← c.is_before-started.ensures, ← c.is_in_force-ranges.ensures)

@@ -11,7 +11,6 @@ use Rattle.checkpoint.proofs.check.are_logins.Goals as goal
 pub returns : goal.returns
 unfolding are_logins are_well_formed_logins
 returns c =
-    let lead = c.before.before in
-    let rows = decode_rows login login_rows lead.args.table.now in
+    let rows = decode_rows login login_rows c.args.table.now in
     let e = counted-front is_login (λ r. r.login) has_rights is_blank_login c.size.result 1 rows in
-    rw (← c.size.ensures) (sym (rw (← lead.leading_logins-n.ensures.0, ← c.are_zero_logins.ensures) at e))
+    rw (← c.size.ensures) (sym (rw (← c.leading_logins-n.ensures.0, ← c.are_zero_logins.ensures) at e))

@@ -11,8 +11,7 @@ use Rattle.checkpoint.proofs.check.are_proposals.Goals as goal
 pub returns : goal.returns
 unfolding are_proposals are_well_formed_proposals
 returns c =
-    let lead = c.before.before in
-    let a = lead.args in
+    let a = c.args in
     let rows = decode_rows proposal proposal_rows a.table.now in
     let e = counted-front is_proposal cycle_of (is_intended a.c a.d) is_blank_proposal c.size.result 0 rows in
-    rw (← c.size.ensures) (sym (rw (← lead.leading_proposals-n.ensures.0, ← c.are_zero_proposals.ensures) at e))
+    rw (← c.size.ensures) (sym (rw (← c.leading_proposals-n.ensures.0, ← c.are_zero_proposals.ensures) at e))

@@ -11,21 +11,16 @@ loop-i-init c = refl
 
 pub loop-i-preserved : goal.loop-i-preserved
 loop-i-preserved c =
-    let turn = c.before.before.before in
-    let l = c.before.before.before.before in
-    let step = all_row seat seat_count l.args.table.now l.loop-i.i free_seat is_well_formed_seat _
-    turn.loop-i-test.true c.seat_at-seat.ensures _ c.is_well_formed.ensures c.if-is_well_formed.true in
-    l.loop-i.invariant ∙ step
+    let step = all_row seat seat_count c.args.table.now c.loop-i.i free_seat is_well_formed_seat _
+    c.loop-i-test.true c.seat_at-seat.ensures _ c.is_well_formed.ensures c.if-is_well_formed.true in
+    c.loop-i.invariant ∙ step
 
 pub returns-else-is_well_formed : goal.returns-else-is_well_formed
 returns-else-is_well_formed c =
-    let turn = c.before.before.before in
-    let l = c.before.before.before.before in
-    let step = not-row seat seat_count l.args.table.now l.loop-i.i free_seat is_well_formed_seat _
-    turn.loop-i-test.true c.seat_at-seat.ensures _ c.is_well_formed.ensures c.if-is_well_formed.false in
-    sym (l.loop-i.invariant ∙ step)
+    let step = not-row seat seat_count c.args.table.now c.loop-i.i free_seat is_well_formed_seat _
+    c.loop-i-test.true c.seat_at-seat.ensures _ c.is_well_formed.ensures c.if-is_well_formed.false in
+    sym (c.loop-i.invariant ∙ step)
 
 pub returns : goal.returns
 returns c =
-    let l = c.before in
-    sym (l.loop-i.invariant ∙ all-rows seat seat_count l.args.table.now l.loop-i.i free_seat is_well_formed_seat c.loop-i-test.false)
+    sym (c.loop-i.invariant ∙ all-rows seat seat_count c.args.table.now c.loop-i.i free_seat is_well_formed_seat c.loop-i-test.false)

@@ -13,13 +13,14 @@ use Rattle.checkpoint.proofs.check.count_present.Goals as goal
 
 pub loop-i-preserved : goal.loop-i-preserved
 loop-i-preserved c =
-    let turn = c.before.before.before in
-    let l = c.before.before.before.before in
-    let b = l.args.table.now in
-    let h = turn.loop-i-test.true in
-    let k : l.loop-i.i < length (decode_rows seat seat_count b) = rw (length-decode_rows seat seat_count) h in
-    let t = row-test seat seat_count b l.loop-i.i free_seat is_present _ _ h c.seat_at-seat.ensures c.is_present.ensures in
-    elim c.if-is_present.branch [ then-is_present w ↦ omega (arith, count-pass is_present (decode_rows seat seat_count b) l.loop-i.i free_seat k (t ∙ w.if-is_present.true)) | else-is_present w ↦ omega (arith, count-fail is_present (decode_rows seat seat_count b) l.loop-i.i free_seat k (t ∙ w.if-is_present.false)) ]
+    let b = c.args.table.now in
+    let h = c.loop-i-test.true in
+    let k : c.loop-i.i < length (decode_rows seat seat_count b) = rw (length-decode_rows seat seat_count) h in
+    let t = row-test seat seat_count b c.loop-i.i free_seat is_present _ _ h c.seat_at-seat.ensures c.is_present.ensures in
+    elim c.if-is_present.branch [
+      | then-is_present w ↦ omega (arith, count-pass is_present (decode_rows seat seat_count b) c.loop-i.i free_seat k (t ∙ w.if-is_present.true))
+      | else-is_present w ↦ omega (arith, count-fail is_present (decode_rows seat seat_count b) c.loop-i.i free_seat k (t ∙ w.if-is_present.false))
+    ]
 
 pub returns : goal.returns
 unfolding present_seats

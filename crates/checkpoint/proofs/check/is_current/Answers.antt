@@ -30,19 +30,15 @@ is_body-requires c = search (rules, sized (goal.at.is_body-requires c).Then-is_r
 
 pub returns-then-is_record : goal.returns-then-is_record
 returns-then-is_record c =
-    let head = c.before.before in
-    let notices = head.before in
-    let then = notices.before in
-    let test = then.before in
-    let b = test.args.b.now in
+    let b = c.args.b.now in
     rw (
       in-parts current b,
-      ← test.is_record.ensures,
-      then.if-is_record.true,
+      ← c.is_record.ensures,
+      c.if-is_record.true,
       decoded-as current b,
       head-noticed b,
-      ← notices.notices_in.ensures,
-      ← head.head_in-head.ensures,
+      ← c.notices_in.ensures,
+      ← c.head_in-head.ensures,
       ← part-from tables_at b,
     ) c.is_body.ensures
 

@@ -27,16 +27,13 @@ is_body-requires c = search (rules, sized (goal.at.is_body-requires c).Then-is_r
 
 pub returns-then-is_record : goal.returns-then-is_record
 returns-then-is_record c =
-    let head = c.before.before in
-    let then = head.before in
-    let test = then.before in
-    let b = test.args.b.now in
+    let b = c.args.b.now in
     rw (
       in-parts earlier b,
-      ← test.is_record.ensures,
-      then.if-is_record.true,
+      ← c.is_record.ensures,
+      c.if-is_record.true,
       decoded-as earlier b,
-      ← head.head_in-head.ensures,
+      ← c.head_in-head.ensures,
       ← part-from earlier_tables_at b,
     ) c.is_body.ensures
 

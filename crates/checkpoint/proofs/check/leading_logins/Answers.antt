@@ -13,28 +13,21 @@ loop-i-init c = (omega arith, (omega arith, omega arith))
 
 pub loop-i-preserved : goal.loop-i-preserved
 loop-i-preserved c =
-    let row = c.before.before.before in
-    let turn = row.before in
-    let l = c.before.before.before.before.before in
-    let b = l.args.table.now in
-    let step = lead-row login login_rows b l.loop-i.i no_login (is_filled is_login has_rights) _ turn.loop-i-test.true
-    row.login_at-row.ensures (λ r. r.login) l.loop-i.lo in
+    let b = c.args.table.now in
+    let step = lead-row login login_rows b c.loop-i.i no_login (is_filled is_login has_rights) _ c.loop-i-test.true
+    c.login_at-row.ensures (λ r. r.login) c.loop-i.lo in
     (omega arith, (search rules, omega (arith, step (rw c.is_granted.ensures at c.if-lo-key.true))))
 
 pub returns-else-lo-key : goal.returns-else-lo-key
 returns-else-lo-key c =
-    let row = c.before.before.before in
-    let turn = row.before in
-    let l = c.before.before.before.before.before in
-    let b = l.args.table.now in
-    let step = last_row login login_rows b l.loop-i.i no_login (is_filled is_login has_rights) _ turn.loop-i-test.true
-    row.login_at-row.ensures (λ r. r.login) l.loop-i.lo in
+    let b = c.args.table.now in
+    let step = last_row login login_rows b c.loop-i.i no_login (is_filled is_login has_rights) _ c.loop-i-test.true
+    c.login_at-row.ensures (λ r. r.login) c.loop-i.lo in
     (omega (arith, step (rw c.is_granted.ensures at c.if-lo-key.false)), omega arith)
 
 pub returns : goal.returns
 returns c =
-    let l = c.before in
-    let b = l.args.table.now in (
-      omega (arith, no_lead login login_rows b l.loop-i.i no_login (is_filled is_login has_rights) (λ r. r.login) l.loop-i.lo c.loop-i-test.false),
+    let b = c.args.table.now in (
+      omega (arith, no_lead login login_rows b c.loop-i.i no_login (is_filled is_login has_rights) (λ r. r.login) c.loop-i.lo c.loop-i-test.false),
       omega arith,
     )

@@ -13,34 +13,25 @@ loop-i-init c = (omega arith, (omega arith, omega arith))
 
 pub loop-i-preserved : goal.loop-i-preserved
 loop-i-preserved c =
-    let since = c.before.before in
-    let row = since.before.before in
-    let turn = row.before in
-    let l = turn.before in
-    let a = l.args in
+    let a = c.args in
     let pending = is_filled is_proposal (is_intended a.c a.d) in
-    let test = rw (c.is_pending.ensures, since.since-key.ensures) at c.if-lo-key.true in
-    let step = lead-row proposal proposal_rows a.table.now l.loop-i.i no_proposal pending _ turn.loop-i-test.true
-    row.proposal_at-row.ensures in
-    (omega arith, (search rules, rw since.since-key.ensures (omega (arith, step cycle_of l.loop-i.lo test))))
+    let test = rw (c.is_pending.ensures, c.since-key.ensures) at c.if-lo-key.true in
+    let step = lead-row proposal proposal_rows a.table.now c.loop-i.i no_proposal pending _ c.loop-i-test.true
+    c.proposal_at-row.ensures in
+    (omega arith, (search rules, rw c.since-key.ensures (omega (arith, step cycle_of c.loop-i.lo test))))
 
 pub returns-else-lo-key : goal.returns-else-lo-key
 returns-else-lo-key c =
-    let since = c.before.before in
-    let row = since.before.before in
-    let turn = row.before in
-    let l = turn.before in
-    let a = l.args in
+    let a = c.args in
     let pending = is_filled is_proposal (is_intended a.c a.d) in
-    let test = rw (c.is_pending.ensures, since.since-key.ensures) at c.if-lo-key.false in
-    let step = last_row proposal proposal_rows a.table.now l.loop-i.i no_proposal pending _ turn.loop-i-test.true
-    row.proposal_at-row.ensures in
-    (omega (arith, step cycle_of l.loop-i.lo test), omega arith)
+    let test = rw (c.is_pending.ensures, c.since-key.ensures) at c.if-lo-key.false in
+    let step = last_row proposal proposal_rows a.table.now c.loop-i.i no_proposal pending _ c.loop-i-test.true
+    c.proposal_at-row.ensures in
+    (omega (arith, step cycle_of c.loop-i.lo test), omega arith)
 
 pub returns : goal.returns
 returns c =
-    let l = c.before in
-    let a = l.args in
+    let a = c.args in
     let pending = is_filled is_proposal (is_intended a.c a.d) in
-    let end = no_lead proposal proposal_rows a.table.now l.loop-i.i no_proposal pending cycle_of l.loop-i.lo c.loop-i-test.false in
+    let end = no_lead proposal proposal_rows a.table.now c.loop-i.i no_proposal pending cycle_of c.loop-i.lo c.loop-i-test.false in
     (omega arith, omega arith)

@@ -6,13 +6,11 @@ use Rattle.checkpoint.proofs.read.current_state_in.Goals as goal
 
 pub returns : goal.returns
 returns c =
-    let head = c.before.before in
-    let notices = head.before in
-    let b = notices.args.b.now in
+    let b = c.args.b.now in
     rw (
       decoded-as current b,
       head-noticed b,
-      ← notices.notices_in.ensures,
-      ← head.head_in-head.ensures,
+      ← c.notices_in.ensures,
+      ← c.head_in-head.ensures,
       ← part-from tables_at b,
     ) c.state_of.ensures

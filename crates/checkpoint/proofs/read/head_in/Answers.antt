@@ -3,13 +3,10 @@ use Rattle.checkpoint.proofs.read.head_in.Goals as goal
 
 pub returns : goal.returns
 returns c =
-    let day = c.before.before in
-    let cycle = day.before in
-    let silence = cycle.before in
-    let a = silence.args in
+    let a = c.args in
     rw (
       head_at_lem a.b.now a.notices,
-      ← cycle.u32_at.ensures,
-      ← day.u32_at-2.ensures,
-      ← silence.u16_at.ensures,
+      ← c.u32_at.ensures,
+      ← c.u32_at-2.ensures,
+      ← c.u16_at.ensures,
     )

@@ -3,10 +3,9 @@ use Rattle.checkpoint.proofs.read.proposal_at.Goals as goal
 
 pub returns : goal.returns
 returns c =
-    let read = c.before.before.before in
     simp (
       drop-drop,
-      read.u32_at.ensures,
+      c.u32_at.ensures,
       c.u32_at-2.ensures,
       c.u16_at.ensures,
       c.u64_at.ensures,

@@ -10,9 +10,8 @@ loop-i-init c = read_none seat seat_count _ _ refl
 
 pub loop-i-preserved : goal.loop-i-preserved
 loop-i-preserved c =
-    let l = c.before.before in
-    let a = l.args in
-    read_one seat seat_count a.b.now a.at l.loop-i.i l.loop-i.rows _ l.loop-i.invariant (omega arith) c.seat_at.ensures
+    let a = c.args in
+    read_one seat seat_count a.b.now a.at c.loop-i.i c.loop-i.rows _ c.loop-i.invariant (omega arith) c.seat_at.ensures
 
 pub returns : goal.returns
 returns c = read_all seat seat_count _ _ _ c.loop-i.invariant (omega arith)

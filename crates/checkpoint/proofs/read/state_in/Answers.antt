@@ -16,9 +16,8 @@ is-earlier c = earlier-by-size c.args.b.now c.requires c.if-b-eq-CHECKPOINT_SIZE
 
 pub returns-then-b-eq-CHECKPOINT_SIZE : goal.returns-then-b-eq-CHECKPOINT_SIZE
 returns-then-b-eq-CHECKPOINT_SIZE c =
-    let start = c.before.before.before in
-    let b = start.args.b.now in
-    rw (read-current b (current-by-size b start.requires c.if-b-eq-CHECKPOINT_SIZE.true)) c.current_state_in.ensures
+    let b = c.args.b.now in
+    rw (read-current b (current-by-size b c.requires c.if-b-eq-CHECKPOINT_SIZE.true)) c.current_state_in.ensures
 
 pub head_in-head-requires : goal.head_in-head-requires
 head_in-head-requires c = omega (arith, accepted-size earlier _ (is-earlier (goal.at.head_in-head-requires c).Else-b-eq-CHECKPOINT_SIZE))
@@ -34,12 +33,10 @@ state_of-requires c = search (rules, accepted-size earlier _ (is-earlier (goal.a
 
 pub returns : goal.returns
 returns c =
-    let head = c.before.before in
-    let else = head.before in
-    let b = else.args.b.now in
+    let b = c.args.b.now in
     rw (
       read-earlier b (is-earlier (goal.at.returns c).Else-b-eq-CHECKPOINT_SIZE),
       decoded-as earlier b,
-      ← head.head_in-head.ensures,
+      ← c.head_in-head.ensures,
       ← part-from earlier_tables_at b,
     ) c.state_of.ensures

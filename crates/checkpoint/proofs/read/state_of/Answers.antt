@@ -3,12 +3,10 @@ use Rattle.checkpoint.proofs.read.state_of.Goals as goal
 
 pub returns : goal.returns
 returns c =
-    let seats = c.before in
-    let logins = seats.before.before.before.before in
-    let a = logins.args in
+    let a = c.args in
     rw (
       parts_at a.head a.b.now,
-      ← seats.seats_at-seats.ensures,
+      ← c.seats_at-seats.ensures,
       ← c.proposals_at-proposals.ensures,
-      ← logins.logins_at-logins.ensures,
+      ← c.logins_at-logins.ensures,
     )

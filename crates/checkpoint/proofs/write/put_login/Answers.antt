@@ -7,9 +7,6 @@ use Rattle.checkpoint.proofs.write.put_login.Goals as goal
 pub returns : goal.returns
 unfolding to_bytes
 returns c =
-    let r = c.before.before in
-    let e = r.before.before.before.before in
-    let l = e.before.before.before.before in
-    then-put _ _ _ _ _ _ _ r.put_u16.ensures
-    (then-put _ _ _ _ _ _ _ e.put_u32-2.ensures
-    l.put_u32.ensures refl (omega arith)) refl (omega arith)
+    then-put _ _ _ _ _ _ _ c.put_u16.ensures
+    (then-put _ _ _ _ _ _ _ c.put_u32-2.ensures
+    c.put_u32.ensures refl (omega arith)) refl (omega arith)

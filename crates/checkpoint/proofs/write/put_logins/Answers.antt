@@ -11,9 +11,8 @@ loop-i-init c = written_none login login_rows _ _ _
 
 pub loop-i-preserved : goal.loop-i-preserved
 loop-i-preserved c =
-    let l = c.before.before.before.before.before.before in
-    let a = l.args in
-    written_one login login-size login_rows a.rows a.out.now a.at l.loop-i.i l.loop-i.out _ _ l.loop-i.invariant (search rules) (omega arith)
+    let a = c.args in
+    written_one login login-size login_rows a.rows a.out.now a.at c.loop-i.i c.loop-i.out _ _ c.loop-i.invariant (search rules) (omega arith)
     (omega arith) c.put_login.auto.out c.put_login.ensures
 
 pub shape_of-out : goal.shape_of-out

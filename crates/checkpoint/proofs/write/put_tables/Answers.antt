@@ -27,19 +27,13 @@ login-rows c = search rules
 pub returns : goal.returns
 unfolding table_bytes
 returns c =
-    let l = c.before.before in
-    let k = l.before.before.before.before in
-    let p = k.before.before.before.before.before in
-    let n = p.before.before.before.before in
-    let s = n.before.before.before.before.before in
-    let z = s.before.before.before in
-    let a = z.args in
+    let a = c.args in
     let d = a.out.now in
-    let w₁ = first-put d _ _ tables_at 160 s.put_seats.ensures (rows-size seat seat-size seat_count a.seats (seat-rows (goal.at.returns c).Start)) in
-    let w₂ = next-put d _ _ _ _ tables_at (tables_at + proposal_count_at) 1 w₁ n.put_u8.ensures refl (omega arith) in
-    let w₃ = next-put d _ _ _ _ tables_at (tables_at + proposals_at) 288 w₂ p.put_proposals.ensures
+    let w₁ = first-put d _ _ tables_at 160 c.put_seats.ensures (rows-size seat seat-size seat_count a.seats (seat-rows (goal.at.returns c).Start)) in
+    let w₂ = next-put d _ _ _ _ tables_at (tables_at + proposal_count_at) 1 w₁ c.put_u8.ensures refl (omega arith) in
+    let w₃ = next-put d _ _ _ _ tables_at (tables_at + proposals_at) 288 w₂ c.put_proposals.ensures
     (rows-size proposal proposal-size proposal_rows a.proposals (proposal-rows (goal.at.returns c).Start)) (omega arith) in
-    let w₄ = next-put d _ _ _ _ tables_at (tables_at + login_count_at) 1 w₃ k.put_u8-2.ensures refl (omega arith) in
-    let w₅ = next-put d _ _ _ _ tables_at (tables_at + logins_at) 640 w₄ l.put_logins.ensures (rows-size login login-size login_rows a.logins (login-rows (goal.at.returns c).Start))
+    let w₄ = next-put d _ _ _ _ tables_at (tables_at + login_count_at) 1 w₃ c.put_u8-2.ensures refl (omega arith) in
+    let w₅ = next-put d _ _ _ _ tables_at (tables_at + logins_at) 640 w₄ c.put_logins.ensures (rows-size login login-size login_rows a.logins (login-rows (goal.at.returns c).Start))
     (omega arith) in
-    all-put d _ _ _ tables_at checkpoint_size w₅ (rw (n.count_proposals.ensures, k.count_logins.ensures) (simp append_assoc))
+    all-put d _ _ _ tables_at checkpoint_size w₅ (rw (c.count_proposals.ensures, c.count_logins.ensures) (simp append_assoc))

@@ -70,8 +70,10 @@ deliver_refusal-k-requires c =
 pub returns-then-k-ne0 : goal.returns-then-k-ne0
 returns-then-k-ne0 c =
     let n = c.args.self in
+    let seen = sees (goal.at.returns-then-k-ne0 c).Joined-has_lapsed in
+    let own_seat = held (goal.at.returns-then-k-ne0 c).Joined-at-lt-SEATS in
     delivered (goal.at.returns-then-k-ne0 c).Else-not-is_sheet _
-    (by-rules n _ _ _ _ (sees (goal.at.returns-then-k-ne0 c).Joined-has_lapsed) (c.deliver_refusal-k.ensures n.own (held (goal.at.returns-then-k-ne0 c).Joined-at-lt-SEATS)) c.if-k-ne0.true c.refuse_delivery-then-k-ne0.ensures)
+    (by-rules n _ _ _ _ seen (c.deliver_refusal-k.ensures n.own own_seat) c.if-k-ne0.true c.refuse_delivery-then-k-ne0.ensures)
 
 pub shows_quorum-requires : goal.shows_quorum-requires
 shows_quorum-requires c =
@@ -80,9 +82,11 @@ shows_quorum-requires c =
 pub returns-then-shows_quorum : goal.returns-then-shows_quorum
 returns-then-shows_quorum c =
     let n = c.args.self in
+    let seen = sees (goal.at.returns-then-shows_quorum c).Joined-has_lapsed in
+    let own_seat = held (goal.at.returns-then-shows_quorum c).Joined-at-lt-SEATS in
     delivered (goal.at.returns-then-shows_quorum c).Else-not-is_sheet _
-    (by-quorum n _ _ _ _ (sees (goal.at.returns-then-shows_quorum c).Joined-has_lapsed) (c.deliver_refusal-k.ensures n.own (held (goal.at.returns-then-shows_quorum c).Joined-at-lt-SEATS)) c.if-k-ne0.false
-    (sym (c.shows_quorum.ensures ∙ same-quorum n _ _ (sees (goal.at.returns-then-shows_quorum c).Joined-has_lapsed)) ∙ c.if-shows_quorum.true)
+    (by-quorum n _ _ _ _ seen (c.deliver_refusal-k.ensures n.own own_seat) c.if-k-ne0.false
+    (sym (c.shows_quorum.ensures ∙ same-quorum n _ _ seen) ∙ c.if-shows_quorum.true)
     (c.leave.ensures ∙ ap (λ (s : State). leaves s n.own) c.advance-next.ensures))
 
 pub vote_refusal-v-requires : goal.vote_refusal-v-requires
@@ -93,10 +97,12 @@ vote_refusal-v-requires c =
 pub returns-then-v-ne0 : goal.returns-then-v-ne0
 returns-then-v-ne0 c =
     let n = c.args.self in
+    let seen = sees (goal.at.returns-then-v-ne0 c).Joined-has_lapsed in
+    let own_seat = held (goal.at.returns-then-v-ne0 c).Joined-at-lt-SEATS in
     delivered (goal.at.returns-then-v-ne0 c).Else-not-is_sheet _
-    (by-vote-rules n _ _ _ _ (sees (goal.at.returns-then-v-ne0 c).Joined-has_lapsed) (c.deliver_refusal-k.ensures n.own (held (goal.at.returns-then-v-ne0 c).Joined-at-lt-SEATS)) c.if-k-ne0.false
-    (sym (c.shows_quorum.ensures ∙ same-quorum n _ _ (sees (goal.at.returns-then-v-ne0 c).Joined-has_lapsed)) ∙ c.if-shows_quorum.false)
-    (c.vote_refusal-v.ensures n.state (held (goal.at.returns-then-v-ne0 c).Joined-at-lt-SEATS ∙ ap (λ (s : State). seat_at n.own.seat s.seats) (sees (goal.at.returns-then-v-ne0 c).Joined-has_lapsed)))
+    (by-vote-rules n _ _ _ _ seen (c.deliver_refusal-k.ensures n.own own_seat) c.if-k-ne0.false
+    (sym (c.shows_quorum.ensures ∙ same-quorum n _ _ seen) ∙ c.if-shows_quorum.false)
+    (c.vote_refusal-v.ensures n.state (own_seat ∙ ap (λ (s : State). seat_at n.own.seat s.seats) seen))
     c.if-v-ne0.true c.refuse_delivery-then-v-ne0.ensures)
 
 pub vote_for-requires : goal.vote_for-requires
@@ -107,8 +113,10 @@ vote_for-requires c =
 pub returns : goal.returns
 returns c =
     let n = c.args.self in
+    let seen = sees (goal.at.returns c).Joined-has_lapsed in
+    let own_seat = held (goal.at.returns c).Joined-at-lt-SEATS in
     delivered (goal.at.returns c).Else-not-is_sheet _
-    (by-vote n _ _ _ _ (sees (goal.at.returns c).Joined-has_lapsed) (c.deliver_refusal-k.ensures n.own (held (goal.at.returns c).Joined-at-lt-SEATS)) c.if-k-ne0.false
-    (sym (c.shows_quorum.ensures ∙ same-quorum n _ _ (sees (goal.at.returns c).Joined-has_lapsed)) ∙ c.if-shows_quorum.false)
-    (c.vote_refusal-v.ensures n.state (held (goal.at.returns c).Joined-at-lt-SEATS ∙ ap (λ (s : State). seat_at n.own.seat s.seats) (sees (goal.at.returns c).Joined-has_lapsed)))
+    (by-vote n _ _ _ _ seen (c.deliver_refusal-k.ensures n.own own_seat) c.if-k-ne0.false
+    (sym (c.shows_quorum.ensures ∙ same-quorum n _ _ seen) ∙ c.if-shows_quorum.false)
+    (c.vote_refusal-v.ensures n.state (own_seat ∙ ap (λ (s : State). seat_at n.own.seat s.seats) seen))
     c.if-v-ne0.false c.vote_for.ensures)

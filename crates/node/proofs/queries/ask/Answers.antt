@@ -20,8 +20,7 @@ is_read c = sym c.read_query-read.ensures ∙ c.in-Read.is
 pub answered-requires : goal.answered-requires
 unfolding Why
 answered-requires c =
-    let told = c.before.before.before in
-    let a = told.args in
+    let a = c.args in
     let n : Node = record { state = a.state; own = a.own; counts = a.counts } in
     let k = c.query_refusal-number.result in
     λ h.
@@ -31,13 +30,10 @@ answered-requires c =
 pub returns-then-are_in_range : goal.returns-then-are_in_range
 unfolding ask_of
 returns-then-are_in_range c =
-    let refusal = c.before in
-    let test = refusal.before.before in
-    let range = sym test.are_in_range.ensures ∙ refusal.if-are_in_range.true in
-    rw (is_read (goal.at.returns-then-are_in_range c).In-Read, range, ← refusal.query_refusal-number.ensures) c.answered.ensures
+    let range = sym c.are_in_range.ensures ∙ c.if-are_in_range.true in
+    rw (is_read (goal.at.returns-then-are_in_range c).In-Read, range, ← c.query_refusal-number.ensures) c.answered.ensures
 
 pub returns : goal.returns
 unfolding ask_of
 returns c =
-    let test = c.before.before in
-    rw (is_read (goal.at.returns c).In-Read, sym test.are_in_range.ensures ∙ c.if-are_in_range.false) c.refuse_query-2.ensures
+    rw (is_read (goal.at.returns c).In-Read, sym c.are_in_range.ensures ∙ c.if-are_in_range.false) c.refuse_query-2.ensures

@@ -4,11 +4,9 @@ use Rattle.records.proofs.announcements.read_grant.Goals as goal
 pub returns : goal.returns
 unfolding read_grant
 returns c =
-    let read = c.before.before.before in
-    let taken = read.before in
     rw (
-      ← taken.u32_at-login.ensures,
-      ← read.u32_at.ensures,
+      ← c.u32_at-login.ensures,
+      ← c.u32_at.ensures,
       ← c.u16_at-rights.ensures,
       ← c.is_zero_from.ensures,
     ) c.announcing.ensures

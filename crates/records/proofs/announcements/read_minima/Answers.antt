@@ -4,6 +4,4 @@ use Rattle.records.proofs.announcements.read_minima.Goals as goal
 pub returns : goal.returns
 unfolding read_minima
 returns c =
-    let ranges = c.before in
-    let zero = ranges.before in
-    rw (← zero.u16_at.ensures, ← zero.is_zero_from.ensures, ← ranges.is_in_range.ensures) c.announcing.ensures
+    rw (← c.u16_at.ensures, ← c.is_zero_from.ensures, ← c.is_in_range.ensures) c.announcing.ensures

@@ -10,23 +10,20 @@ use Rattle.records.proofs.sheets.are_rows.Goals as goal
 
 pub returns-then-b-i-ge-SEAT_NUMBERS : goal.returns-then-b-i-ge-SEAT_NUMBERS
 returns-then-b-i-ge-SEAT_NUMBERS c =
-    let l = c.before.before.before in
-    let b = l.args.b.now in
-    let h : l.loop-i.i < byte_at 6 b = omega arith in
-    sym (l.loop-i.invariant.1 ∙ all-turn _ (rows_of b) l.loop-i.i no_row (rw sheet-rows h) ∙ rw (sheet-row b l.loop-i.i h, le-ltb _ _ c.if-b-i-ge-SEAT_NUMBERS.true))
+    let b = c.args.b.now in
+    let h : c.loop-i.i < byte_at 6 b = omega arith in
+    sym (c.loop-i.invariant.1 ∙ all-turn _ (rows_of b) c.loop-i.i no_row (rw sheet-rows h) ∙ rw (sheet-row b c.loop-i.i h, le-ltb _ _ c.if-b-i-ge-SEAT_NUMBERS.true))
 
 pub loop-i-preserved : goal.loop-i-preserved
 loop-i-preserved c =
-    let l = c.before.before.before in
-    let b = l.args.b.now in
-    let h : l.loop-i.i < byte_at 6 b = omega arith in (
-      l.loop-i.invariant.0,
-      l.loop-i.invariant.1 ∙ all-turn _ (rows_of b) l.loop-i.i no_row (rw sheet-rows h) ∙ rw
-          (sheet-row b l.loop-i.i h, lt-ltb _ _ c.if-b-i-ge-SEAT_NUMBERS.false),
+    let b = c.args.b.now in
+    let h : c.loop-i.i < byte_at 6 b = omega arith in (
+      c.loop-i.invariant.0,
+      c.loop-i.invariant.1 ∙ all-turn _ (rows_of b) c.loop-i.i no_row (rw sheet-rows h) ∙ rw
+          (sheet-row b c.loop-i.i h, lt-ltb _ _ c.if-b-i-ge-SEAT_NUMBERS.false),
     )
 
 pub returns : goal.returns
 returns c =
-    let l = c.before in
-    let b = l.args.b.now in
-    sym (l.loop-i.invariant.1 ∙ all_end _ (rows_of b) l.loop-i.i (rw sheet-rows (omega arith)))
+    let b = c.args.b.now in
+    sym (c.loop-i.invariant.1 ∙ all_end _ (rows_of b) c.loop-i.i (rw sheet-rows (omega arith)))

@@ -28,8 +28,7 @@ are_rows-requires c =
 pub returns-then-is_record : goal.returns-then-is_record
 unfolding is_sheet
 returns-then-is_record c =
-    let branch = c.before.before.before in
-    rw (le-leb _ _ branch.if-n-gt-MOST_ROWS.false, sym c.is_record.ensures ∙ c.if-is_record.true)
+    rw (le-leb _ _ c.if-n-gt-MOST_ROWS.false, sym c.is_record.ensures ∙ c.if-is_record.true)
     c.are_rows.ensures
 
 pub returns-else-is_record : goal.returns-else-is_record

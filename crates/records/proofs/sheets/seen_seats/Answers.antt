@@ -7,16 +7,14 @@ use Rattle.records.proofs.sheets.seen_seats.Goals as goal
 -- the seat of the row
 below : (c : After-size-k) → c.size-k.result < 32
 below c =
-    let l = c.before.before.before in
-    omega (arith, c.size-k.ensures, l.loop-i.invariant.sheet.seat l.loop-i.i (omega arith))
+    omega (arith, c.size-k.ensures, c.loop-i.invariant.sheet.seat c.loop-i.i (omega arith))
 
 pub bounds-b-6 : goal.bounds-b-6
 bounds-b-6 c = omega (arith, (sheet-of c.args.b.now c.requires).size)
 
 pub loop-i-init : goal.loop-i-init
 loop-i-init c =
-    let s = c.before.before.before in
-    seen_start s.args.b.now s.args.seats c.size-n.result s.requires c.size-n.ensures
+    seen_start c.args.b.now c.args.seats c.size-n.result c.requires c.size-n.ensures
 
 pub offset_bounds-seats-k : goal.offset_bounds-seats-k
 offset_bounds-seats-k c = omega (arith, below (goal.at.offset_bounds-seats-k c).After-size-k)
@@ -32,15 +30,10 @@ overflow_shl-seen c = below (goal.at.overflow_shl-seen c).After-size-k
 
 pub loop-i-preserved : goal.loop-i-preserved
 loop-i-preserved c =
-    let r = c.before.before.before.before in
-    let l = r.before.before.before.before in
-    let s = l.before.before.before.before in
-    seen-turn s.args.b.now s.args.seats l.size-n.result l.loop-i.i r.size-k.result r.u32_at-life.result
-    c.one_if-hit.result l.loop-i.seen l.loop-i.invariant
-    r.loop-i-test.true r.size-k.ensures r.u32_at-life.ensures c.one_if-hit.ensures
+    seen-turn c.args.b.now c.args.seats c.size-n.result c.loop-i.i c.size-k.result c.u32_at-life.result
+    c.one_if-hit.result c.loop-i.seen c.loop-i.invariant
+    c.loop-i-test.true c.size-k.ensures c.u32_at-life.ensures c.one_if-hit.ensures
 
 pub returns : goal.returns
 returns c =
-    let l = c.before in
-    let s = l.before.before.before.before in
-    seen_end s.args.b.now s.args.seats l.size-n.result l.loop-i.i l.loop-i.seen l.loop-i.invariant c.loop-i-test.false
+    seen_end c.args.b.now c.args.seats c.size-n.result c.loop-i.i c.loop-i.seen c.loop-i.invariant c.loop-i-test.false

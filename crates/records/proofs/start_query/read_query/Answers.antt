@@ -38,7 +38,10 @@ door c =
     let named = sym c.is_record-named.ensures in
     let b = c.args.b.now in
     let at : Bool → ℕ = λ k. cond k (byte_at 13 b) 0 in
-    elim c.if-named.branch [ then-named w ↦ w.door-is ∙ sym (ap at (named ∙ w.if-named.true)) | else-named w ↦ w.door-is ∙ sym (ap at (named ∙ w.if-named.false)) ]
+    elim c.if-named.branch [
+      | then-named w ↦ w.door-is ∙ sym (ap at (named ∙ w.if-named.true))
+      | else-named w ↦ w.door-is ∙ sym (ap at (named ∙ w.if-named.false))
+    ]
 
 pub returns-then-not-is_record-named : goal.returns-then-not-is_record-named
 unfolding read_query
@@ -50,9 +53,7 @@ bounds-b-12 c = omega (arith, long (goal.at.bounds-b-12 c).Else-not-is_record-na
 
 pub bounds-b-13 : goal.bounds-b-13
 bounds-b-13 c =
-    let named = c.before in
-    let one = named.before.before in
-    let r = record-length door_query_length kind_door_query (bytes (goal.at.bounds-b-13 c).Else-not-is_record-named) (sym one.is_record-named.ensures ∙ named.if-named.true) in
+    let r = record-length door_query_length kind_door_query (bytes (goal.at.bounds-b-13 c).Else-not-is_record-named) (sym c.is_record-named.ensures ∙ c.if-named.true) in
     omega arith
 
 pub u32_at-requires : goal.u32_at-requires
@@ -64,7 +65,6 @@ u32_at-requires-then-right-door c = omega (arith, long (goal.at.u32_at-requires-
 pub returns-then-right-door : goal.returns-then-right-door
 unfolding read_query
 returns-then-right-door c =
-    let join = c.before.before.before in
     rw (
       framed (goal.at.returns-then-right-door c).Else-not-is_record-named,
       ← door (goal.at.returns-then-right-door c).Joined-named,
@@ -76,5 +76,4 @@ returns-then-right-door c =
 pub returns-else-right-door : goal.returns-else-right-door
 unfolding read_query
 returns-else-right-door c =
-    let join = c.before in
     rw (framed (goal.at.returns-else-right-door c).Else-not-is_record-named, ← door (goal.at.returns-else-right-door c).Joined-named, c.if-right-door.false)

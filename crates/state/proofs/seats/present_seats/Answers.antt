@@ -10,10 +10,12 @@ use Rattle.state.proofs.seats.present_seats.Goals as goal
 
 pub loop-i-preserved : goal.loop-i-preserved
 loop-i-preserved c =
-    let b = c in
-    let h : b.loop-i.i < length b.args.seats = search rules in
+    let h : c.loop-i.i < length c.args.seats = search rules in
     let e = sym c.is_present.ensures in
-    elim c.if-is_present.branch [ then-is_present w ↦ omega (arith, count-pass is_present b.args.seats b.loop-i.i _ h (e ∙ w.if-is_present.true)) | else-is_present w ↦ omega (arith, count-fail is_present b.args.seats b.loop-i.i _ h (e ∙ w.if-is_present.false)) ]
+    elim c.if-is_present.branch [
+      | then-is_present w ↦ omega (arith, count-pass is_present c.args.seats c.loop-i.i _ h (e ∙ w.if-is_present.true))
+      | else-is_present w ↦ omega (arith, count-fail is_present c.args.seats c.loop-i.i _ h (e ∙ w.if-is_present.false))
+    ]
 
 pub returns : goal.returns
 unfolding present_seats

@@ -9,27 +9,21 @@ use Rattle.tables.proofs.logins.add_login.Goals as goal
 
 pub returns-then-at-ge-LOGIN_ROWS : goal.returns-then-at-ge-LOGIN_ROWS
 returns-then-at-ge-LOGIN_ROWS c =
-    let b = c.before in
-    add-full b.args.x b.args.rows b.place_of-at.result (search rules) b.place_of-at.ensures c.if-at-ge-LOGIN_ROWS.true
+    add-full c.args.x c.args.rows c.place_of-at.result (search rules) c.place_of-at.ensures c.if-at-ge-LOGIN_ROWS.true
 
 pub returns-then-named-x : goal.returns-then-named-x
 returns-then-named-x c =
-    let b = c.before.before.before.before.before in
-    add-replaces b.args.x b.args.rows b.place_of-at.result (search rules) b.place_of-at.ensures (eq-eqb _ _ c.if-named-x.true)
+    add-replaces c.args.x c.args.rows c.place_of-at.result (search rules) c.place_of-at.ensures (eq-eqb _ _ c.if-named-x.true)
 
 pub loop-i-init : goal.loop-i-init
 loop-i-init c = (search rules, refl)
 
 pub loop-i-preserved : goal.loop-i-preserved
 loop-i-preserved c =
-    let b = c.before.before in
-    (simp length-set b.loop-i.invariant.0, insert-turn b.loop-i.next b.loop-i.out b.loop-i.i _ (omega arith) ∙ b.loop-i.invariant.1)
+    (simp length-set c.loop-i.invariant.0, insert-turn c.loop-i.next c.loop-i.out c.loop-i.i _ (omega arith) ∙ c.loop-i.invariant.1)
 
 pub returns : goal.returns
 returns c =
-    let l = c.before in
-    let new = l.before in
-    let b = new.before.before.before.before.before in
-    sym (insert-end l.loop-i.next l.loop-i.out l.loop-i.i (omega arith)) ∙ l.loop-i.invariant.1
-    ∙ add-inserts b.args.x b.args.rows b.place_of-at.result (search rules) b.place_of-at.ensures
-    (ne_eqb _ _ new.if-named-x.false)
+    sym (insert-end c.loop-i.next c.loop-i.out c.loop-i.i (omega arith)) ∙ c.loop-i.invariant.1
+    ∙ add-inserts c.args.x c.args.rows c.place_of-at.result (search rules) c.place_of-at.ensures
+    (ne_eqb _ _ c.if-named-x.false)

@@ -10,10 +10,12 @@ use Rattle.tables.proofs.logins.count_logins.Goals as goal
 
 pub loop-i-preserved : goal.loop-i-preserved
 loop-i-preserved c =
-    let b = c.before.before.before.before in
-    let h : b.loop-i.i < length b.args.rows = search rules in
+    let h : c.loop-i.i < length c.args.rows = search rules in
     let e = sym c.is_used.ensures in
-    elim c.if-is_used.branch [ then-is_used w ↦ omega (arith, count-pass is_login b.args.rows b.loop-i.i _ h (e ∙ w.if-is_used.true)) | else-is_used w ↦ omega (arith, count-fail is_login b.args.rows b.loop-i.i _ h (e ∙ w.if-is_used.false)) ]
+    elim c.if-is_used.branch [
+      | then-is_used w ↦ omega (arith, count-pass is_login c.args.rows c.loop-i.i _ h (e ∙ w.if-is_used.true))
+      | else-is_used w ↦ omega (arith, count-fail is_login c.args.rows c.loop-i.i _ h (e ∙ w.if-is_used.false))
+    ]
 
 pub returns : goal.returns
 returns c =

@@ -13,14 +13,12 @@ loop-i-init c = refl
 
 pub loop-i-preserved : goal.loop-i-preserved
 loop-i-preserved c =
-    let b = c.before.before.before in
-    let rows = b.args.rows in
-    let h : b.loop-i.i < length rows = search rules in
-    b.loop-i.invariant ∙ least-turn is_earlier b.loop-i.earliest rows b.loop-i.i no_login h ∙ rw c.earlier-earliest.ensures
+    let rows = c.args.rows in
+    let h : c.loop-i.i < length rows = search rules in
+    c.loop-i.invariant ∙ least-turn is_earlier c.loop-i.earliest rows c.loop-i.i no_login h ∙ rw c.earlier-earliest.ensures
 
 pub returns : goal.returns
 returns c =
-    let b = c.before in
-    let rows = b.args.rows in
-    let h : length rows ≤ b.loop-i.i = search rules in
-    sym (b.loop-i.invariant ∙ least-end is_earlier b.loop-i.earliest rows b.loop-i.i h)
+    let rows = c.args.rows in
+    let h : length rows ≤ c.loop-i.i = search rules in
+    sym (c.loop-i.invariant ∙ least-end is_earlier c.loop-i.earliest rows c.loop-i.i h)

@@ -17,15 +17,14 @@ loop-i-init c = (search rules, keep-start _ login_rows no_login _)
 
 pub loop-i-preserved : goal.loop-i-preserved
 loop-i-preserved c =
-    let b = c.before.before.before.before in
-    let a = b.args in
-    let h : b.loop-i.i < length a.rows = search rules in
+    let a = c.args in
+    let h : c.loop-i.i < length a.rows = search rules in
     let m : length a.rows ≤ login_rows = search rules in (
       omega arith,
       elim c.if-row-login.branch [
         | then-row-login w ↦ rw (w.out-is, w.j-is)
-            (keep-pass _ login_rows no_login a.rows b.loop-i.i _ h m _ _ b.loop-i.invariant.1 (ap not (ne_eqb _ _ w.if-row-login.true)))
-        | else-row-login w ↦ rw (w.out-is, w.j-is) (keep-fail _ login_rows no_login a.rows b.loop-i.i _ h m _ _ b.loop-i.invariant.1 (ap not (eq-eqb _ _ w.if-row-login.false)))
+            (keep-pass _ login_rows no_login a.rows c.loop-i.i _ h m _ _ c.loop-i.invariant.1 (ap not (ne_eqb _ _ w.if-row-login.true)))
+        | else-row-login w ↦ rw (w.out-is, w.j-is) (keep-fail _ login_rows no_login a.rows c.loop-i.i _ h m _ _ c.loop-i.invariant.1 (ap not (eq-eqb _ _ w.if-row-login.false)))
       ],
     )
 

@@ -14,15 +14,13 @@ loop-i-init c = refl
 pub returns-then-row-login : goal.returns-then-row-login
 unfolding find_login
 returns-then-row-login c =
-    let b = c.before.before.before.before in
-    let h : b.loop-i.i < length b.args.rows = search rules in
-    sym (b.loop-i.invariant ∙ first-pass (is_named b.args.login) b.args.rows b.loop-i.i _ h no_login (eq-eqb _ _ c.if-row-login.true))
+    let h : c.loop-i.i < length c.args.rows = search rules in
+    sym (c.loop-i.invariant ∙ first-pass (is_named c.args.login) c.args.rows c.loop-i.i _ h no_login (eq-eqb _ _ c.if-row-login.true))
 
 pub loop-i-preserved : goal.loop-i-preserved
 loop-i-preserved c =
-    let b = c.before.before.before.before in
-    let h : b.loop-i.i < length b.args.rows = search rules in
-    b.loop-i.invariant ∙ first-fail (is_named b.args.login) b.args.rows b.loop-i.i _ h no_login (ne_eqb _ _ c.if-row-login.false)
+    let h : c.loop-i.i < length c.args.rows = search rules in
+    c.loop-i.invariant ∙ first-fail (is_named c.args.login) c.args.rows c.loop-i.i _ h no_login (ne_eqb _ _ c.if-row-login.false)
 
 pub returns : goal.returns
 unfolding find_login

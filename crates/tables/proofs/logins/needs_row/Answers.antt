@@ -3,8 +3,7 @@ use Rattle.tables.proofs.logins.needs_row.Goals as goal
 
 pub returns-then-logins_full : goal.returns-then-logins_full
 returns-then-logins_full c =
-    let full = c.before in
-    rw (sym full.logins_full.ensures ∙ full.if-logins_full.true, ← c.is_listed.ensures)
+    rw (sym c.logins_full.ensures ∙ c.if-logins_full.true, ← c.is_listed.ensures)
 
 pub returns : goal.returns
 returns c = rw (sym c.logins_full.ensures ∙ c.if-logins_full.false)

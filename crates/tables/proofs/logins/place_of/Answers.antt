@@ -9,17 +9,15 @@ use Rattle.tables.proofs.logins.place_of.Goals as goal
 
 pub returns-then-is_place : goal.returns-then-is_place
 returns-then-is_place c =
-    let b = c.before.before.before.before in
-    let a = b.args in
-    let h : b.loop-i.i < length a.rows = search rules in
-    omega (arith, index-pass (is_place a.login) a.rows b.loop-i.i _ h (sym c.is_place.ensures ∙ c.if-is_place.true))
+    let a = c.args in
+    let h : c.loop-i.i < length a.rows = search rules in
+    omega (arith, index-pass (is_place a.login) a.rows c.loop-i.i _ h (sym c.is_place.ensures ∙ c.if-is_place.true))
 
 pub loop-i-preserved : goal.loop-i-preserved
 loop-i-preserved c =
-    let b = c.before.before.before.before in
-    let a = b.args in
-    let h : b.loop-i.i < length a.rows = search rules in
-    omega (arith, index-fail (is_place a.login) a.rows b.loop-i.i _ h (sym c.is_place.ensures ∙ c.if-is_place.false))
+    let a = c.args in
+    let h : c.loop-i.i < length a.rows = search rules in
+    omega (arith, index-fail (is_place a.login) a.rows c.loop-i.i _ h (sym c.is_place.ensures ∙ c.if-is_place.false))
 
 pub returns : goal.returns
 returns c =

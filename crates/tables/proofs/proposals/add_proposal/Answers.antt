@@ -15,23 +15,21 @@ loop-i-init c = (search rules, (refl, replace-start _ _ _))
 pub returns-then-not-is_used : goal.returns-then-not-is_used
 unfolding add_proposal
 returns-then-not-is_used c =
-    let b = c.before.before.before.before in
-    let a = b.args in
-    let v = b.loop-i.invariant in
-    let h : b.loop-i.i < length a.rows = omega arith in
-    rw v.1.0 (replace-pass _ a.x a.rows b.loop-i.i no_proposal h v.1.1
+    let a = c.args in
+    let v = c.loop-i.invariant in
+    let h : c.loop-i.i < length a.rows = omega arith in
+    rw v.1.0 (replace-pass _ a.x a.rows c.loop-i.i no_proposal h v.1.1
     (rw v.1.0 at (ap not (sym c.is_used.ensures ∙ c.if-not-is_used.true))))
 
 pub loop-i-preserved : goal.loop-i-preserved
 loop-i-preserved c =
-    let b = c.before.before.before.before in
-    let a = b.args in
-    let v = b.loop-i.invariant in
-    let h : b.loop-i.i < length a.rows = omega arith in (
+    let a = c.args in
+    let v = c.loop-i.invariant in
+    let h : c.loop-i.i < length a.rows = omega arith in (
       v.0,
       (
         v.1.0,
-        replace-fail _ a.x a.rows b.loop-i.i no_proposal h v.1.1
+        replace-fail _ a.x a.rows c.loop-i.i no_proposal h v.1.1
             (rw v.1.0 at (ap not (sym c.is_used.ensures ∙ c.if-not-is_used.false))),
       ),
     )

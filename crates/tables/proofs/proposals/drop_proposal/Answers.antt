@@ -16,17 +16,16 @@ loop-i-init c = (search rules, keep-start _ proposal_rows no_proposal _)
 
 pub loop-i-preserved : goal.loop-i-preserved
 loop-i-preserved c =
-    let b = c.before.before.before.before in
-    let a = b.args in
-    let h : b.loop-i.i < length a.rows = search rules in
+    let a = c.args in
+    let h : c.loop-i.i < length a.rows = search rules in
     let m : length a.rows ≤ proposal_rows = search rules in (
       omega arith,
       elim c.if-not-is_of_cycle.branch [
         | then-not-is_of_cycle w ↦ rw (w.out-is, w.j-is)
-            (keep-pass _ proposal_rows no_proposal a.rows b.loop-i.i _ h m _ _ b.loop-i.invariant.1
+            (keep-pass _ proposal_rows no_proposal a.rows c.loop-i.i _ h m _ _ c.loop-i.invariant.1
             (ap not (sym c.is_of_cycle.ensures ∙ w.if-not-is_of_cycle.true)))
         | else-not-is_of_cycle w ↦ rw (w.out-is, w.j-is)
-            (keep-fail _ proposal_rows no_proposal a.rows b.loop-i.i _ h m _ _ b.loop-i.invariant.1
+            (keep-fail _ proposal_rows no_proposal a.rows c.loop-i.i _ h m _ _ c.loop-i.invariant.1
             (ap not (sym c.is_of_cycle.ensures ∙ w.if-not-is_of_cycle.false)))
       ],
     )

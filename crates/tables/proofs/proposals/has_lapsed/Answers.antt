@@ -13,19 +13,17 @@ loop-i-init c = refl
 
 pub returns-then-is_lapsed : goal.returns-then-is_lapsed
 returns-then-is_lapsed c =
-    let b = c.before.before.before.before in
-    let a = b.args in
-    let h : b.loop-i.i < length a.rows = search rules in
-    sym (b.loop-i.invariant ∙ any-turn (is_lapsed a.announced) a.rows b.loop-i.i _ h
-    ∙ ap (λ t. t || any (is_lapsed a.announced) (drop (b.loop-i.i + 1) a.rows)) (sym c.is_lapsed.ensures ∙ c.if-is_lapsed.true))
+    let a = c.args in
+    let h : c.loop-i.i < length a.rows = search rules in
+    sym (c.loop-i.invariant ∙ any-turn (is_lapsed a.announced) a.rows c.loop-i.i _ h
+    ∙ ap (λ t. t || any (is_lapsed a.announced) (drop (c.loop-i.i + 1) a.rows)) (sym c.is_lapsed.ensures ∙ c.if-is_lapsed.true))
 
 pub loop-i-preserved : goal.loop-i-preserved
 loop-i-preserved c =
-    let b = c.before.before.before.before in
-    let a = b.args in
-    let h : b.loop-i.i < length a.rows = search rules in
-    b.loop-i.invariant ∙ any-turn (is_lapsed a.announced) a.rows b.loop-i.i _ h
-    ∙ ap (λ t. t || any (is_lapsed a.announced) (drop (b.loop-i.i + 1) a.rows)) (sym c.is_lapsed.ensures ∙ c.if-is_lapsed.false)
+    let a = c.args in
+    let h : c.loop-i.i < length a.rows = search rules in
+    c.loop-i.invariant ∙ any-turn (is_lapsed a.announced) a.rows c.loop-i.i _ h
+    ∙ ap (λ t. t || any (is_lapsed a.announced) (drop (c.loop-i.i + 1) a.rows)) (sym c.is_lapsed.ensures ∙ c.if-is_lapsed.false)
 
 pub returns : goal.returns
 returns c =

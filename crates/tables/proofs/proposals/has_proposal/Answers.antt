@@ -19,27 +19,22 @@ bounds-rows-i c =
 
 pub overflow_add-i : goal.overflow_add-i
 overflow_add-i c =
-    let turn = c.before.before in
-    let l = turn.loop-i in
-    omega (arith, seek-inside proposal_rows l.i l.found turn.loop-i-test.true)
+    let l = c.loop-i in
+    omega (arith, seek-inside proposal_rows l.i l.found c.loop-i-test.true)
 
 pub loop-i-smaller : goal.loop-i-smaller
 loop-i-smaller c =
-    let turn = c.before.before in
-    let l = turn.loop-i in
-    omega (arith, seek-inside proposal_rows l.i l.found turn.loop-i-test.true)
+    let l = c.loop-i in
+    omega (arith, seek-inside proposal_rows l.i l.found c.loop-i-test.true)
 
 pub loop-i-preserved : goal.loop-i-preserved
 loop-i-preserved c =
-    let turn = c.before.before in
-    let l = turn.before in
-    let a = l.args in
-    seek-turn (is_of_cycle a.c) a.rows proposal_rows (search rules) l.loop-i.i _ l.loop-i.found _ turn.loop-i-test.true
-    c.is_of_cycle-found.ensures l.loop-i.invariant
+    let a = c.args in
+    seek-turn (is_of_cycle a.c) a.rows proposal_rows (search rules) c.loop-i.i _ c.loop-i.found _ c.loop-i-test.true
+    c.is_of_cycle-found.ensures c.loop-i.invariant
 
 pub returns : goal.returns
 unfolding has_proposal
 returns c =
-    let l = c.before in
-    let a = l.args in
-    seek-end (is_of_cycle a.c) a.rows proposal_rows (search rules) l.loop-i.i l.loop-i.found c.loop-i-test.false l.loop-i.invariant
+    let a = c.args in
+    seek-end (is_of_cycle a.c) a.rows proposal_rows (search rules) c.loop-i.i c.loop-i.found c.loop-i-test.false c.loop-i.invariant

@@ -13,16 +13,14 @@ loop-i-init c = refl
 pub returns-then-is_mature : goal.returns-then-is_mature
 unfolding mature_proposal
 returns-then-is_mature c =
-    let b = c.before.before.before.before in
-    let h : b.loop-i.i < length b.args.rows = search rules in
-    sym (b.loop-i.invariant ∙ first-pass (is_mature b.args.notices b.args.subject b.args.announced) b.args.rows
-    b.loop-i.i _ h no_proposal (sym c.is_mature.ensures ∙ c.if-is_mature.true))
+    let h : c.loop-i.i < length c.args.rows = search rules in
+    sym (c.loop-i.invariant ∙ first-pass (is_mature c.args.notices c.args.subject c.args.announced) c.args.rows
+    c.loop-i.i _ h no_proposal (sym c.is_mature.ensures ∙ c.if-is_mature.true))
 
 pub loop-i-preserved : goal.loop-i-preserved
 loop-i-preserved c =
-    let b = c.before.before.before.before in
-    let h : b.loop-i.i < length b.args.rows = search rules in
-    b.loop-i.invariant ∙ first-fail (is_mature b.args.notices b.args.subject b.args.announced) b.args.rows b.loop-i.i _ h no_proposal
+    let h : c.loop-i.i < length c.args.rows = search rules in
+    c.loop-i.invariant ∙ first-fail (is_mature c.args.notices c.args.subject c.args.announced) c.args.rows c.loop-i.i _ h no_proposal
     (sym c.is_mature.ensures ∙ c.if-is_mature.false)
 
 pub returns : goal.returns

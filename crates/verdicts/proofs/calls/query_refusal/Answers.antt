@@ -18,32 +18,26 @@ returns-then-is_halted c = rw (is-halted (goal.at.returns-then-is_halted c).Afte
 pub returns-then-misses_at-ge-MOST_MISSES : goal.returns-then-misses_at-ge-MOST_MISSES
 unfolding query_refusal
 returns-then-misses_at-ge-MOST_MISSES c =
-    let running = c.before.before in
-    rw (is-halted (goal.at.returns-then-misses_at-ge-MOST_MISSES c).After-is_halted ∙ running.if-is_halted.false, ← c.misses_at.ensures, le-leb _ _ c.if-misses_at-ge-MOST_MISSES.true)
+    rw (is-halted (goal.at.returns-then-misses_at-ge-MOST_MISSES c).After-is_halted ∙ c.if-is_halted.false, ← c.misses_at.ensures, le-leb _ _ c.if-misses_at-ge-MOST_MISSES.true)
 
 pub returns-then-is_silent : goal.returns-then-is_silent
 unfolding query_refusal
 returns-then-is_silent c =
-    let unlocked = c.before.before in
-    let running = unlocked.before.before in
     rw (
-      is-halted (goal.at.returns-then-is_silent c).After-is_halted ∙ running.if-is_halted.false,
-      ← unlocked.misses_at.ensures,
-      lt-leb _ _ unlocked.if-misses_at-ge-MOST_MISSES.false,
-      ← running.later-t.ensures,
+      is-halted (goal.at.returns-then-is_silent c).After-is_halted ∙ c.if-is_halted.false,
+      ← c.misses_at.ensures,
+      lt-leb _ _ c.if-misses_at-ge-MOST_MISSES.false,
+      ← c.later-t.ensures,
       sym c.is_silent.ensures ∙ c.if-is_silent.true,
     )
 
 pub returns : goal.returns
 unfolding query_refusal
 returns c =
-    let heard = c.before in
-    let unlocked = heard.before.before in
-    let running = unlocked.before.before in
     rw (
-      is-halted (goal.at.returns c).After-is_halted ∙ running.if-is_halted.false,
-      ← unlocked.misses_at.ensures,
-      lt-leb _ _ unlocked.if-misses_at-ge-MOST_MISSES.false,
-      ← running.later-t.ensures,
-      sym heard.is_silent.ensures ∙ heard.if-is_silent.false,
+      is-halted (goal.at.returns c).After-is_halted ∙ c.if-is_halted.false,
+      ← c.misses_at.ensures,
+      lt-leb _ _ c.if-misses_at-ge-MOST_MISSES.false,
+      ← c.later-t.ensures,
+      sym c.is_silent.ensures ∙ c.if-is_silent.false,
     ) c.login_refusal.ensures

@@ -11,4 +11,5 @@ pub mod TableMembers
 pub mod TableCounts
 pub mod Fronts
 pub mod Count
+pub mod Library
 pub mod Loops

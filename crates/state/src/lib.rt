@@ -10,18 +10,18 @@ pub mod trustees;
 pub mod well_formed;
 
 ghost use Rattle.std.specs.Prelude.{◌≡◌};
-ghost use Rattle.state.specs.Time.{is_before_day, is_same_day, days_since, later_day, is_before_cycle, is_same_cycle, cycles_since, next_cycle};
+ghost use Rattle.state.specs.Time.{days_since, cycles_since, next_cycle};
 ghost use Rattle.state.specs.WellFormed.{blank_state};
 ghost use Rattle.state.specs.Rows.{is_proposal, is_login, is_ended, is_held, holds_right, is_silent};
 
-use crate::limits::{LAST_CYCLE, LOGIN_ROWS, PROPOSAL_ROWS, RIGHTS, SEATS};
+use crate::limits::{LOGIN_ROWS, PROPOSAL_ROWS, RIGHTS, SEATS};
 
 // A count of days from 1970-01-01.
-#[derive(Clone, Copy)]
+#[derive(Clone, Copy, Debug, PartialEq, Eq, PartialOrd, Ord)]
 pub struct Day(pub u32);
 
 // The number of performed actions plus 1.
-#[derive(Clone, Copy)]
+#[derive(Clone, Copy, Debug, PartialEq, Eq, PartialOrd, Ord)]
 pub struct Cycle(pub u32);
 
 // The least numbers of days from a proposal to its action: the restart notice is that of a rejoin, the ordinary one that of the other kinds.
@@ -50,7 +50,7 @@ pub struct Seat {
 }
 
 // An action that needs a notice: its kind, and its first 8 argument bytes as one little-endian number.
-#[derive(Clone, Copy)]
+#[derive(Clone, Copy, Debug, PartialEq, Eq)]
 pub struct Subject {
     pub kind: u16,
     pub arguments: u64,
@@ -109,69 +109,27 @@ pub const NO_LOGIN: Login = Login {
 };
 
 impl Day {
-    pub fn is_before(self, other: Day) -> bool
-        ensures { result ≡ is_before_day self other }
-    {
-        self.0 < other.0
-    }
-
-    pub fn is_same(self, other: Day) -> bool
-        ensures { result ≡ is_same_day self other }
-    {
-        self.0 == other.0
-    }
-
     // The days from the earlier day up to this one, 0 where that day is later.
     pub fn since(self, earlier: Day) -> u32
         ensures { result ≡ days_since self earlier }
     {
-        if earlier.0 <= self.0 {
-            self.0 - earlier.0
-        } else {
-            0
-        }
-    }
-
-    pub fn later(self, other: Day) -> Day
-        ensures { result ≡ later_day self other }
-    {
-        if self.0 < other.0 { other } else { self }
+        self.0.saturating_sub(earlier.0)
     }
 }
 
 impl Cycle {
-    pub fn is_before(self, other: Cycle) -> bool
-        ensures { result ≡ is_before_cycle self other }
-    {
-        self.0 < other.0
-    }
-
-    pub fn is_same(self, other: Cycle) -> bool
-        ensures { result ≡ is_same_cycle self other }
-    {
-        self.0 == other.0
-    }
-
     // The cycles from the earlier one up to this one, 0 where that one is later.
     pub fn since(self, earlier: Cycle) -> u32
         ensures { result ≡ cycles_since self earlier }
     {
-        if earlier.0 <= self.0 {
-            self.0 - earlier.0
-        } else {
-            0
-        }
+        self.0.saturating_sub(earlier.0)
     }
 
     // The last cycle has none after it.
     pub fn next(self) -> Cycle
         ensures { result ≡ next_cycle self }
     {
-        if self.0 < LAST_CYCLE {
-            Cycle(self.0 + 1)
-        } else {
-            self
-        }
+        Cycle(self.0.saturating_add(1))
     }
 }
 
@@ -193,8 +151,7 @@ impl Login {
     pub fn is_ended(self, t: Day) -> bool
         ensures { result ≡ is_ended t self }
     {
-        let end = self.end;
-        end.is_before(t)
+        self.end < t
     }
 
     pub fn holds_right(self, right: u8) -> bool
@@ -241,6 +198,7 @@ const BLANK: State = State {
     logins: [NO_LOGIN; LOGIN_ROWS],
 };
 
+#[tactic(auto, unfolding(crate::specs::WellFormed::blank_state))]
 pub fn blank_state() -> State
     ensures { result ≡ blank_state }
 {

@@ -14,38 +14,33 @@ fn or_kept(named: u8, now: u8) -> u8
 
 impl Minima {
     // The ranges of minima that are named: a notice may be zero.
+    #[tactic(auto, unfolding(crate::specs::Minima::is_in_range))]
     pub fn is_in_range(self) -> bool
         ensures { result ≡ is_in_range self }
     {
-        let notices = self.notices;
         (self.margin <= MOST_MARGIN)
-            & (((1 <= self.least) & (self.least <= MOST_LEAST))
-                & (((1 <= self.silence) & (self.silence <= MOST_SILENCE))
-                    & ((notices.ordinary <= MOST_NOTICE) & (notices.restart <= MOST_NOTICE))))
+            & (1..=MOST_LEAST).contains(&self.least)
+            & (1..=MOST_SILENCE).contains(&self.silence)
+            & (self.notices.ordinary <= MOST_NOTICE)
+            & (self.notices.restart <= MOST_NOTICE)
     }
 
     // The ranges of a state's minima.
+    #[tactic(auto, unfolding(crate::specs::Minima::is_in_force))]
     pub fn is_in_force(self) -> bool
         ensures { result ≡ is_in_force self }
     {
-        let notices = self.notices;
-        self.is_in_range() & ((1 <= notices.ordinary) & (1 <= notices.restart))
+        self.is_in_range() & (1 <= self.notices.ordinary) & (1 <= self.notices.restart)
     }
 
     // What is in force once these are named, where `now` are.
     pub fn set_over(self, now: Minima) -> Minima
         ensures { result ≡ set_over now self }
     {
-        let named = self.notices;
-        let old = now.notices;
-        Minima {
-            margin: self.margin,
-            least: self.least,
-            silence: self.silence,
-            notices: Notices {
-                ordinary: or_kept(named.ordinary, old.ordinary),
-                restart: or_kept(named.restart, old.restart),
-            },
-        }
+        let notices = Notices {
+            ordinary: or_kept(self.notices.ordinary, now.notices.ordinary),
+            restart: or_kept(self.notices.restart, now.notices.restart),
+        };
+        Minima { notices, ..self }
     }
 }

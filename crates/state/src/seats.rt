@@ -33,19 +33,11 @@ impl Seat {
 pub fn present_seats(seats: [Seat; SEATS]) -> u8
     ensures { (result ≡ present_seats seats) × (result ≤ 32) }
 {
-    let mut n: u8 = 0;
-    let mut i: usize = 0;
-    while i < SEATS {
-        let seat = seats[i];
-        if seat.is_present() {
-            n = n + 1;
-        }
-        i = i + 1;
-    }
-    n
+    seats.iter().filter(|seat| seat.is_present()).count() as u8
 }
 
 // The larger of p/2 + 1 + m and k.
+#[tactic(auto, unfolding(crate::specs::Seats::quorum))]
 pub fn quorum(p: u8, m: u8, k: u8) -> u32
     ensures { result ≡ quorum p m k }
 {

@@ -23,6 +23,7 @@ fn minima_in(a: u64) -> Minima
 }
 
 // A seat below 32, any life, and zero bytes after them.
+#[tactic(auto, unfolding(crate::specs::Subjects::is_seat_and_life))]
 fn is_seat_and_life(a: u64) -> bool
     ensures { result ≡ is_seat_and_life a }
 {
@@ -30,6 +31,7 @@ fn is_seat_and_life(a: u64) -> bool
 }
 
 // Of these, a life of at least 1.
+#[tactic(auto, unfolding(crate::specs::Subjects::is_certify))]
 fn is_certify(a: u64) -> bool
     ensures { result ≡ is_certify a }
 {
@@ -37,14 +39,15 @@ fn is_certify(a: u64) -> bool
 }
 
 // Minima within their ranges, and zero bytes after them.
+#[tactic(auto, unfolding(crate::specs::Subjects::is_minima))]
 fn is_minima(a: u64) -> bool
     ensures { result ≡ is_minima a }
 {
-    let minima = minima_in(a);
-    minima.is_in_range() & (a < 281474976710656)
+    minima_in(a).is_in_range() & (a < 281474976710656)
 }
 
 // A seat below 32, and zero bytes after it.
+#[tactic(auto, unfolding(crate::specs::Subjects::is_remove))]
 fn is_remove(a: u64) -> bool
     ensures { result ≡ is_remove a }
 {
@@ -53,16 +56,15 @@ fn is_remove(a: u64) -> bool
 
 impl Subject {
     // Whether the kind may be proposed and its arguments obey its ranges.
+    #[tactic(auto, unfolding(crate::specs::Subjects::is_subject))]
     pub fn is_well_formed(self) -> bool
         ensures { result ≡ is_subject self }
     {
-        let kind = self.kind;
-        let arguments = self.arguments;
-        match kind {
-            CERTIFY => is_certify(arguments),
-            MINIMA => is_minima(arguments),
-            REMOVE => is_remove(arguments),
-            REJOIN => is_seat_and_life(arguments),
+        match self.kind {
+            CERTIFY => is_certify(self.arguments),
+            MINIMA => is_minima(self.arguments),
+            REMOVE => is_remove(self.arguments),
+            REJOIN => is_seat_and_life(self.arguments),
             _ => false,
         }
     }
@@ -99,14 +101,13 @@ pub fn certifies(seat: u8, life: u32) -> Subject
 pub fn sets_minima(x: Minima) -> Subject
     ensures { result ≡ sets_minima x }
 {
-    let notices = x.notices;
     Subject {
         kind: MINIMA,
         arguments: (x.margin as u64)
             + 256 * (x.least as u64)
             + 65536 * (x.silence as u64)
-            + 4294967296 * (notices.ordinary as u64)
-            + 1099511627776 * (notices.restart as u64),
+            + 4294967296 * (x.notices.ordinary as u64)
+            + 1099511627776 * (x.notices.restart as u64),
     }
 }
 

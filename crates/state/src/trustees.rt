@@ -7,17 +7,16 @@ fn ones_below(n: u8, mask: u8) -> u8
     ensures { result ≡ ones_below n mask }
 {
     let mut rest = mask;
-    let mut left = n;
     let mut ones: u8 = 0;
-    while 0 < left {
-        ones = ones + rest % 2;
-        rest = rest / 2;
-        left = left - 1;
+    for _ in 0..n {
+        ones += rest % 2;
+        rest /= 2;
     }
     ones
 }
 
 // Whether more than half of n trustees are on the mask.
+#[tactic(auto, unfolding(crate::specs::Trustees::is_majority))]
 pub fn is_majority(n: u8, mask: u8) -> bool
     ensures { result ≡ is_majority n mask }
 {

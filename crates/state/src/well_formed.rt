@@ -25,11 +25,7 @@ impl Proposal {
     pub fn is_pending(self, c: Cycle, d: Day) -> bool
         ensures { result ≡ is_filled is_proposal (is_intended c d) self }
     {
-        let cycle = self.cycle;
-        let day = self.day;
-        let subject = self.subject;
-        let well_formed = subject.is_well_formed();
-        self.is_used() & (cycle.is_before(c) & (!d.is_before(day) & well_formed))
+        self.is_used() & (self.cycle < c) & (self.day <= d) & self.subject.is_well_formed()
     }
 }
 

@@ -12,7 +12,6 @@ use Rattle.refusals.specs.declared.Refusal.TheVariants as R
 use Rattle.refusals.specs.Refusals.{number_of, lowest}
 
 pub numbered : (r : Refusal) → tag_of the_type r + 1 ≡ number_of r
-unfolding number_of
 numbered R.Malformed = refl
 numbered R.BadSheet = refl
 numbered R.Halted = refl

@@ -1,7 +1,9 @@
-use mathlib.Core.Path.{sym}
-use Rattle.verdicts.proofs.Misses.{four-in-range}
 use borrow.Author.Rules.{rules}
+use Rattle.lists.proofs.Library.{all-is}
+use Rattle.verdicts.specs.Attempts.{are_in_range}
+use Rattle.verdicts.proofs.Misses.{within}
 use Rattle.verdicts.proofs.attempts.are_in_range.Goals as goal
 
 pub returns : goal.returns
-returns c = sym (four-in-range c.args.counts (search rules))
+unfolding are_in_range
+returns c = all-is within 0 c.args.counts.misses c.all.result (search rules) (search rules)

@@ -1,12 +1,11 @@
 -- "Refusals return the number, and leave state and buffers unchanged except for the miss just named and its image; a refused start yields no node."
 -- For every call at a host of any cluster, and for every slice.
-use Rattle.std.specs.Prelude.{◌≡◌, ◌≢◌, true, List, ℕ, ◌%◌, ◌≤◌}
+use Rattle.std.specs.Prelude.{◌≡◌, ◌≢◌, true, List, ℕ, ◌%◌, ◌≤◌, Some}
 use Rattle.std.proofs.Math.Option.{some}
 use Rattle.binary.specs.Number.{overwrite}
 use Rattle.state.specs.declared.Cycle.{Cycle}
 use Rattle.state.specs.declared.Day.{Day}
 use Rattle.records.specs.declared.Query.{Query}
-use Rattle.records.specs.declared.QueryRead.TheVariants as Q
 use Rattle.records.specs.StartQuery.{read_query}
 use Rattle.roster.specs.declared.RosterAnswer.TheVariants as Roster
 use Rattle.roster.specs.Calls.{import_of, export_of}
@@ -15,8 +14,8 @@ use Rattle.shares.specs.declared.MergeAnswer.TheVariants as Merge
 use Rattle.shares.specs.declared.AddAnswer.TheVariants as Add
 use Rattle.shares.specs.Calls.{split_of, merge_of, add_of}
 use Rattle.node.specs.declared.Node.{Node}
-use Rattle.node.specs.declared.CheckpointAnswer.TheVariants.{Refused}
-use Rattle.node.specs.declared.PageAnswer.TheVariants as Page
+use Rattle.node.specs.CheckpointAnswer.{Refused}
+use Rattle.node.specs.PageAnswer as Page
 use Rattle.node.specs.Checkpoint.{checkpoint_of, checkpoint_slice}
 use Rattle.node.specs.Page.{page_of, page_slice}
 use Rattle.node.specs.Claims.{one_miss_more, no_misses_at}
@@ -71,7 +70,7 @@ Changed w v (through_c i) n m = ImageChanged w v i n m
 -- a query, whose bytes are qb, left its host's node with f of its door; nothing else changed
 pub record Counted (w v : Cluster) (h : Host) (qb : List ℕ) (f : ℕ → Node → Node) : Type 0 where
   pub query : Query
-  pub read : read_query qb ≡ Q.Read query
+  pub read : read_query qb ≡ Some query
   pub node : Node
   pub changed : Changed w v h node (f query.door node)
 
@@ -102,7 +101,7 @@ pub record SlicesKept : Type 0 where
   pub start : (cb sb out : List ℕ) → KeepsSlice out (node_start cb sb out)
   pub deliver : (image ab sb out : List ℕ) → KeepsSlice out (node_deliver image ab sb out)
   pub query : (image qb out : List ℕ) → ¬ AddsMiss (node_query image qb out).number → KeepsSlice out (node_query image qb out)
-  pub miss : (image qb out : List ℕ) → AddsMiss (node_query image qb out).number → (q : Query) × (read_query qb ≡ Q.Read q)
+  pub miss : (image qb out : List ℕ) → AddsMiss (node_query image qb out).number → (q : Query) × (read_query qb ≡ Some q)
       × ((node_query image qb out).slice ≡ overwrite (image_bytes (one_miss_more q.door (read_image image).node)) out)
   pub checkpoint : (image out : List ℕ) → KeepsSlice out (node_checkpoint image out)
   pub checkpoint-by-value : (n : Node) (out : List ℕ) (k : ℕ) → (checkpoint_of n out).answer ≡ Refused k → checkpoint_slice n out ≡ out

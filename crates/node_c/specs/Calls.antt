@@ -13,8 +13,8 @@ use Rattle.shares.specs.declared.MergeAnswer.TheVariants as Merge
 use Rattle.shares.specs.declared.AddAnswer.{AddAnswer}
 use Rattle.shares.specs.declared.AddAnswer.TheVariants as Add
 use Rattle.shares.specs.Calls.{split_of, merge_of, add_of}
-use Rattle.node.specs.declared.PageAnswer.{PageAnswer}
-use Rattle.node.specs.declared.PageAnswer.TheVariants as P
+use Rattle.node.specs.PageAnswer.{PageAnswer}
+use Rattle.node.specs.PageAnswer as P
 use Rattle.node.specs.Answers.{start_number, deliver_number, query_number, checkpoint_number}
 use Rattle.node.specs.Start.{start_of}
 use Rattle.node.specs.Deliver.{deliver_of}

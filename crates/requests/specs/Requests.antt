@@ -3,13 +3,13 @@ use Rattle.std.specs.Prelude.{ℕ, ◌+◌, List, Bool, true, false, cond, eqb, 
 use Rattle.state.specs.Time.{cycle, is_same_cycle}
 use Rattle.records.specs.Layout.{kind_start}
 use Rattle.node.specs.declared.Node.{Node}
-use Rattle.node.specs.declared.StartReply.{StartReply}
-use Rattle.node.specs.declared.StartAnswer.{StartAnswer}
-use Rattle.node.specs.declared.StartAnswer.TheVariants as S
-use Rattle.node.specs.declared.DeliverAnswer.{DeliverAnswer}
-use Rattle.node.specs.declared.DeliverAnswer.TheVariants as D
-use Rattle.node.specs.declared.QueryAnswer.{QueryAnswer}
-use Rattle.node.specs.declared.QueryAnswer.TheVariants as Q
+use Rattle.node.specs.Reply.{StartReply}
+use Rattle.node.specs.StartAnswer.{StartAnswer}
+use Rattle.node.specs.StartAnswer as S
+use Rattle.node.specs.DeliverAnswer.{DeliverAnswer}
+use Rattle.node.specs.DeliverAnswer as D
+use Rattle.node.specs.QueryAnswer.{QueryAnswer}
+use Rattle.node.specs.QueryAnswer as Q
 use Rattle.node.specs.Start.{start_of}
 use Rattle.node.specs.Deliver.{deliver_of}
 use Rattle.node.specs.Query.{query_of}

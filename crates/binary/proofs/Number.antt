@@ -1,6 +1,6 @@
 -- Laws of the little-endian numbers, over any width w.
 use Prim.Native.Nat.{ℕ, zero, suc, ◌+◌, ◌*◌, ◌/◌, ◌%◌, ◌^◌, ◌≤◌, ◌<◌}
-use native.Mathlib.Nat.{zero-add, suc-add, add-zero, pow-zero, pow-suc, one-mul, mul-zero, mul_right_comm}
+use native.Mathlib.Nat.{add-zero, pow-suc}
 use native.Mathlib.Omega.{arith}
 use mathlib.Core.Path.{◌≡◌, refl, ap, ◌∙◌}
 use mathlib.Core.List.{List, [], ◌∷◌, ◌++◌}
@@ -66,36 +66,3 @@ number-sum (suc w) (x ∷ xs) = ap (λ (n : ℕ). x + 256 * n) (number-sum w xs)
 
 pub number_at : (w at : ℕ) (b : List ℕ) → from_bytes (suc w) (drop at b) ≡ get_or b at 0 + 256 * sum_at w (λ i. get_or b (at + suc i) 0)
 number_at w at b = number-sum (suc w) (drop at b) ∙ simp (get_or-drop, add-zero)
-
-number-nil : (w : ℕ) → from_bytes w [] ≡ 0
-unfolding from_bytes
-number-nil zero = refl
-number-nil (suc w) = refl
-
--- a number of v + w bytes from its two parts
-pub number-add : (v w : ℕ) (b : List ℕ) → from_bytes (v + w) b ≡ from_bytes v b + 256 ^ v * from_bytes w (drop v b)
-unfolding from_bytes
-number-add zero w b = rw (zero-add, pow-zero, one-mul, zero-add)
-number-add (suc v) w [] = rw (suc-add, number-nil w) (omega (arith, mul-zero (256 ^ suc v)))
-number-add (suc v) w (x ∷ xs) =
-    rw (suc-add, pow-suc)
-    (omega (arith, number-add v w xs, mul_right_comm (256 ^ v) 256 (from_bytes w (drop v xs))))
-
-low : (y m h : ℕ) → y ≡ 256 * m + h → h % 256 ≡ y % 256
-low y m h e = omega arith
-
--- the bytes of a number of eight from its two halves
-pub bytes_halves : (x : ℕ) → to_bytes 4 (x % 4294967296) ++ to_bytes 4 (x / 4294967296) ≡ to_bytes 8 x
-unfolding to_bytes
-bytes_halves x =
-    let q = x / 4294967296 in
-    let h = x % 4294967296 in
-    let d1 : x / 256 ≡ 16777216 * q + h / 256 = omega arith in
-    let d2 : x / 256 / 256 ≡ 65536 * q + h / 256 / 256 = omega arith in
-    let d3 : x / 256 / 256 / 256 ≡ 256 * q + h / 256 / 256 / 256 = omega arith in
-    let e0 = low x (16777216 * q) h (omega arith) in
-    let e1 = low (x / 256) (65536 * q) (h / 256) (omega arith) in
-    let e2 = low (x / 256 / 256) (256 * q) (h / 256 / 256) (omega arith) in
-    let e3 = low (x / 256 / 256 / 256) q (h / 256 / 256 / 256) d3 in
-    let e4 : q ≡ x / 256 / 256 / 256 / 256 = omega arith in
-    rw (e0, e1, e2, e3, e4)

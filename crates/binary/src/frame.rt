@@ -8,10 +8,7 @@ use crate::u16_at;
 pub fn is_framed(b: &[u8], n: u16) -> bool
     ensures { result ≡ is_framed n b.now }
 {
-    if b.len() != (n as usize) + 2 {
-        return false;
-    }
-    u16_at(b, 0) == n
+    b.len() == usize::from(n) + 2 && u16_at(b, 0) == n
 }
 
 // The bytes are one record with this length field and of this kind.
@@ -19,9 +16,5 @@ pub fn is_record(b: &[u8], n: u16, kind: u16) -> bool
     requires { 2 ≤ n }
     ensures { result ≡ is_record n kind b.now }
 {
-    if is_framed(b, n) {
-        u16_at(b, 2) == kind
-    } else {
-        false
-    }
+    is_framed(b, n) && u16_at(b, 2) == kind
 }

@@ -1,26 +1,118 @@
--- The folds of this crate are the library's, in which the clauses of iterators speak.
-use mathlib.Core.Path.{◌≡◌, refl}
-use mathlib.Core.Bool.{Bool, true, false, cond}
-use Prim.Native.Nat.{ℕ, ◌<◌}
-use lib.ListN.{length, get_or}
-use mathlib.Core.List.{List}
-use Rattle.std.specs.Prelude.{count_by}
-use Rattle.std.proofs.lemmas.List.Recursion.{is_sum_by, and_is, or_is}
-use Rattle.lists.specs.Fold.{any, all, count}
+-- The folds of this crate are the library's, in which the clauses of iterators and slices speak.
+use mathlib.Core.Path.{◌≡◌, refl, sym, ap, ◌∙◌}
+use mathlib.Core.Bool.{Bool, true, false, cond, not}
+use mathlib.Core.List.{List, [], ◌∷◌, ◌++◌, append-nil}
+use Prim.Native.Nat.{ℕ, suc, ◌+◌, ◌-◌, ◌<◌, ◌≤◌}
+use native.Mathlib.Omega.{arith}
+use native.Mathlib.Numerals.{add-one}
+use lib.ListN.{length, set, take, drop, drop_of_length-le, length-append}
+use lib.Dec.{ltb}
+use borrow.Author.Tests.{ltb-true, ltb-false}
+use lib.Seq.{length-take-le, take-append-le, take-append-add, take-take, drop_at, set_split}
+use Rattle.std.specs.Prelude.{count_by, filter, find, fold, position, unwrap_or, Option, Some, None}
+use Rattle.std.specs.List.{list_any, list_all, position_or_len, copy_within}
+use Rattle.std.proofs.lemmas.List.Recursion.{is_sum_by, same_from_clauses}
+use Rattle.lists.specs.Fold.{any, all, count, first, least}
+use Rattle.lists.specs.Table.{replace_first}
+use Rattle.lists.specs.Code.{index_of, insert_at}
 
-pub count-is : {A : Type 0} (p : A → Bool) (xs : List A) → count p xs ≡ count_by p xs
-unfolding count
-count-is p = is_sum_by (count p) (λ x. cond (p x) 1 0) refl (λ _ _. refl)
+module _ {A : Type 0} (p : A → Bool) where
+  pub count-is : (xs : List A) → count p xs ≡ count_by p xs
+  unfolding count
+  count-is = is_sum_by (count p) (λ x. cond (p x) 1 0) refl (λ _ _. refl)
 
-module _ {A : Type 0} (p : A → Bool) (d : A) (xs : List A) (r : Bool) where
-  -- r is what the library's `all` answered: it stopped at an element that fails, or at the end
-  pub all-is : (r ≡ true → (i : ℕ) → i < length xs → p (get_or xs i d) ≡ true) → (r ≡ false → (i : ℕ) × (i < length xs) × (p (get_or xs i d) ≡ false))
-      → r ≡ all p xs
-  unfolding all
-  all-is = and_is (all p) p refl (λ _ _. refl) xs d r
-
-  -- and likewise of `any`
-  pub any-is : (r ≡ true → (i : ℕ) × (i < length xs) × (p (get_or xs i d) ≡ true)) → (r ≡ false → (i : ℕ) → i < length xs → p (get_or xs i d) ≡ false)
-      → r ≡ any p xs
+  pub any-is : (xs : List A) → any p xs ≡ list_any p xs
   unfolding any
-  any-is = or_is (any p) p refl (λ _ _. refl) xs d r
+  any-is [] = refl
+  any-is (x ∷ xs) = rw (any-is xs)
+
+  pub all-is : (xs : List A) → all p xs ≡ list_all p xs
+  unfolding all
+  all-is [] = refl
+  all-is (x ∷ xs) = rw (all-is xs)
+
+  pub first-is : (d : A) (xs : List A) → first p d xs ≡ unwrap_or (find p xs) d
+  unfolding first
+  first-is d [] = refl
+  first-is d (x ∷ xs) = at (p x) (first-is d xs)
+    where
+      at : (b : Bool) → first p d xs ≡ unwrap_or (find p xs) d → cond b x (first p d xs) ≡ unwrap_or (cond b (Some x) (find p xs)) d
+      at true h = refl
+      at false h = h
+
+  pub index-is : (xs : List A) → index_of p xs ≡ position_or_len p xs
+  unfolding index_of
+  index-is [] = refl
+  index-is (x ∷ xs) = at (p x) (index-is xs)
+    where
+      at : (b : Bool) → index_of p xs ≡ position_or_len p xs → cond b 0 (suc (index_of p xs)) ≡ cond (not b) (1 + position_or_len p xs) 0
+      at true h = refl
+      at false h = omega arith
+
+pub least-is : {A : Type 0} (before : A → A → Bool) (x : A) (xs : List A) → least before x xs ≡ fold (λ y z. cond (before z y) z y) x xs
+unfolding least
+least-is before x [] = refl
+least-is before x (y ∷ ys) = least-is before (cond (before y x) y x) ys
+
+-- the rows from i on moved to the next place, and x in row i
+pub copied-insert : {A : Type 0} (x : A) (l : List A) (i n : ℕ) → length l ≡ suc n → i < suc n → set (copy_within l i n (i + 1)) i x ≡ insert_at i x l
+unfolding insert_at
+copied-insert x l i n e h =
+    let p = take (i + 1) l in
+    let q = take (n - i) (drop i l) in
+    let lp : length p ≡ suc i = length-take-le (i + 1) l (omega arith) ∙ add-one i in
+    let none = drop_of_length-le l {i = i + 1 + (n - i)} (omega arith) in
+    let copied : copy_within l i n (i + 1) ≡ p ++ q = rw none (append-nil (p ++ q)) in
+    let left : take i (p ++ q) ≡ take i l = take-append-le i p q (omega arith) ∙ take-take i (i + 1) l (omega arith) in
+    let right : drop (suc i) (p ++ q) ≡ q = drop_at p q (suc i) lp in
+    let behind : set (p ++ q) i x ≡ take i l ++ (x ∷ q) = set_split (p ++ q) i x (rw length-append (omega arith)) ∙ rw (left, right) in
+    let lt = length-take-le i l (omega arith) in
+    let long : length l ≡ length (take i l) + suc (n - i) = omega arith in
+    rw copied (behind ∙ sym (rw long (take-append-add (take i l) (x ∷ drop i l) (suc (n - i)))))
+
+-- where the library finds the first row that passes, and where it finds none
+module _ {A : Type 0} (p : A → Bool) (l : List A) where
+  pub place-some : (i : ℕ) → position p l ≡ Some i → (i ≡ index_of p l) × (i < length l)
+  place-some i e = at (ltb (position_or_len p l) (length l)) refl e
+    where
+      at : (b : Bool) → ltb (position_or_len p l) (length l) ≡ b → cond b (Some (position_or_len p l)) None ≡ Some i → (i ≡ index_of p l) × (i < length l)
+      at true h k =
+          let same : position_or_len p l ≡ i = cc in
+          let inside = ltb-true _ _ h in
+          (sym (index-is p l ∙ same), omega arith)
+      at false h k = cc
+
+  pub place-none : position p l ≡ None → length l ≤ index_of p l
+  place-none e = at (ltb (position_or_len p l) (length l)) refl e
+    where
+      at : (b : Bool) → ltb (position_or_len p l) (length l) ≡ b → cond {A = Option ℕ} b (Some (position_or_len p l)) None ≡ None → length l ≤ index_of p l
+      at true h k = cc
+      at false h k = let past = ltb-false _ _ h in omega (arith, index-is p l)
+
+-- the first row that passes replaced, at its place
+module _ {A : Type 0} (p : A → Bool) (x : A) where
+  replace-inside : (l : List A) → index_of p l < length l → set l (index_of p l) x ≡ replace_first p x l
+  unfolding index_of replace_first
+  replace-inside [] h = absurd (omega arith)
+  replace-inside (r ∷ rs) h = at (p r) h (replace-inside rs)
+    where
+      at : (b : Bool) → cond b 0 (suc (index_of p rs)) < suc (length rs) → (index_of p rs < length rs → set rs (index_of p rs) x ≡ replace_first p x rs)
+          → set (r ∷ rs) (cond b 0 (suc (index_of p rs))) x ≡ cond b (x ∷ rs) (r ∷ replace_first p x rs)
+      at true h f = refl
+      at false h f = ap (λ (t : List A). r ∷ t) (f (omega arith))
+
+  replace-past : (l : List A) → length l ≤ index_of p l → l ≡ replace_first p x l
+  unfolding index_of replace_first
+  replace-past [] h = refl
+  replace-past (r ∷ rs) h = at (p r) h (replace-past rs)
+    where
+      at : (b : Bool) → suc (length rs) ≤ cond b 0 (suc (index_of p rs)) → (length rs ≤ index_of p rs → rs ≡ replace_first p x rs)
+          → (r ∷ rs) ≡ cond b (x ∷ rs) (r ∷ replace_first p x rs)
+      at true h f = absurd (omega arith)
+      at false h f = ap (λ (t : List A). r ∷ t) (f (omega arith))
+
+  pub replace-some : (l : List A) (i : ℕ) → position p l ≡ Some i → set l i x ≡ replace_first p x l
+  replace-some l i e = let at = place-some p l i e in rw at.0 (replace-inside l (omega (arith, at.0, at.1)))
+
+  pub replace-none : (l : List A) → position p l ≡ None → l ≡ replace_first p x l
+  replace-none l e = replace-past l (place-none p l e)

@@ -3,17 +3,6 @@
 
 pub mod logins;
 pub mod proposals;
+mod rows;
 
-use state::{Login, NO_LOGIN};
-
-// Whether a grant needs the row of another login, and that row, unused where it needs none.
-#[derive(Clone, Copy)]
-pub struct Eviction {
-    pub needed: bool,
-    pub row: Login,
-}
-
-pub const NO_EVICTION: Eviction = Eviction {
-    needed: false,
-    row: NO_LOGIN,
-};
+pub use rows::{Row, count_used, is_full};

@@ -1,12 +1,7 @@
-use native.Mathlib.Omega.{arith}
-use lib.ListN.{length-set}
-use Rattle.binary.proofs.Splices.{splice-stores}
-use Rattle.binary.specs.Number.{to_bytes}
+use mathlib.Core.Path.{◌∙◌}
+use Rattle.binary.proofs.Library.{put_number, le_bytes-two}
 use Rattle.binary.proofs.put_u16.Goals as goal
 
-pub bounds-out-at-2 : goal.bounds-out-at-2
-bounds-out-at-2 c = simp length-set (omega arith)
-
 pub returns : goal.returns
-unfolding to_bytes
-returns c = splice-stores _ _ _ _ c.requires
+returns c =
+    put_number 2 _ _ _ _ (c.copy_from_slice.ensures.after ∙ c.to_le_bytes.ensures ∙ le_bytes-two c.args.x)

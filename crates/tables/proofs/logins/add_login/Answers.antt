@@ -1,29 +1,27 @@
-use mathlib.Core.Path.{refl, sym, ◌∙◌}
-use native.Mathlib.Omega.{arith}
-use lib.ListN.{length-set}
+use Rattle.std.proofs.Common.{◌≡◌, length, refl, rules, arith, sym, ◌∙◌}
 use borrow.Author.Tests.{eq-eqb, ne_eqb}
-use Rattle.lists.proofs.Loops.{insert-turn, insert-end}
+use Rattle.lists.proofs.Library.{place-some, place-none, copied-insert}
+use Rattle.state.specs.Limits.{login_rows}
+use Rattle.tables.specs.Code.{is_place}
 use Rattle.tables.proofs.Added.{add-full, add-replaces, add-inserts}
-use borrow.Author.Rules.{rules}
+use Rattle.tables.proofs.logins.add_login.Goals.{then-out-at, else-out-at}
 use Rattle.tables.proofs.logins.add_login.Goals as goal
 
-pub returns-then-at-ge-LOGIN_ROWS : goal.returns-then-at-ge-LOGIN_ROWS
-returns-then-at-ge-LOGIN_ROWS c =
-    add-full c.args.x c.args.rows c.place_of-at.result (search rules) c.place_of-at.ensures c.if-at-ge-LOGIN_ROWS.true
+pub returns-after-out-at : goal.returns-after-out-at
+returns-after-out-at c =
+    let x = c.args.x in
+    let rows = c.args.rows in
+    let at = c.in-Some.at in
+    let long : length rows ≡ login_rows = search rules in
+    let place = place-some (is_place x.login) rows at (sym c.place_of.ensures ∙ c.in-Some.is) in
+    elim c.if-out-at.branch [
+      | then-out-at w ↦ rw (w.out-is, w.copy_within.ensures.after) (copied-insert x rows at 63 long (omega (arith, place.1)) ∙ add-inserts x rows at long place.0 (ne_eqb _ _ w.if-out-at.true))
+      | else-out-at w ↦ rw w.out-is (add-replaces x rows at long place.0 (eq-eqb _ _ w.if-out-at.false))
+    ]
 
-pub returns-then-named-x : goal.returns-then-named-x
-returns-then-named-x c =
-    add-replaces c.args.x c.args.rows c.place_of-at.result (search rules) c.place_of-at.ensures (eq-eqb _ _ c.if-named-x.true)
-
-pub loop-i-init : goal.loop-i-init
-loop-i-init c = (search rules, refl)
-
-pub loop-i-preserved : goal.loop-i-preserved
-loop-i-preserved c =
-    (simp length-set c.loop-i.invariant.0, insert-turn c.loop-i.next c.loop-i.out c.loop-i.i _ (omega arith) ∙ c.loop-i.invariant.1)
-
-pub returns : goal.returns
-returns c =
-    sym (insert-end c.loop-i.next c.loop-i.out c.loop-i.i (omega arith)) ∙ c.loop-i.invariant.1
-    ∙ add-inserts c.args.x c.args.rows c.place_of-at.result (search rules) c.place_of-at.ensures
-    (ne_eqb _ _ c.if-named-x.false)
+pub returns-in_default : goal.returns-in_default
+returns-in_default c =
+    let x = c.args.x in
+    let long : length c.args.rows ≡ login_rows = search rules in
+    let past = place-none (is_place x.login) c.args.rows (sym c.place_of.ensures ∙ c.in_default.is) in
+    add-full x c.args.rows _ long refl (omega (arith, past))

@@ -1,38 +1,7 @@
-use Prim.Native.Nat.{◌≤◌, ◌<◌}
-use mathlib.Core.Path.{sym, ap, ◌∙◌}
-use mathlib.Core.Bool.{not}
-use native.Mathlib.Omega.{arith}
-use lib.ListN.{length}
-use Rattle.lists.proofs.Loops.{keep-start, keep-pass, keep-fail, keep-end}
-use Rattle.state.specs.Limits.{proposal_rows}
-use Rattle.state.specs.Rows.{no_proposal}
-use Rattle.tables.specs.Proposals.{drop_proposal}
-use borrow.Author.Rules.{rules}
-use Rattle.tables.proofs.proposals.drop_proposal.Goals.{else-not-is_of_cycle, then-not-is_of_cycle}
+use Rattle.std.proofs.Common.{rules}
+use Rattle.tables.specs.Proposals.{is_of_cycle, drop_proposal}
 use Rattle.tables.proofs.proposals.drop_proposal.Goals as goal
-
-pub loop-i-init : goal.loop-i-init
-loop-i-init c = (search rules, keep-start _ proposal_rows no_proposal _)
-
-pub loop-i-preserved : goal.loop-i-preserved
-loop-i-preserved c =
-    let a = c.args in
-    let h : c.loop-i.i < length a.rows = search rules in
-    let m : length a.rows ≤ proposal_rows = search rules in (
-      omega arith,
-      elim c.if-not-is_of_cycle.branch [
-        | then-not-is_of_cycle w ↦ rw (w.out-is, w.j-is)
-            (keep-pass _ proposal_rows no_proposal a.rows c.loop-i.i _ h m _ _ c.loop-i.invariant.1
-            (ap not (sym c.is_of_cycle.ensures ∙ w.if-not-is_of_cycle.true)))
-        | else-not-is_of_cycle w ↦ rw (w.out-is, w.j-is)
-            (keep-fail _ proposal_rows no_proposal a.rows c.loop-i.i _ h m _ _ c.loop-i.invariant.1
-            (ap not (sym c.is_of_cycle.ensures ∙ w.if-not-is_of_cycle.false)))
-      ],
-    )
 
 pub returns : goal.returns
 unfolding drop_proposal
-returns c =
-    let a = c.args in
-    let h : length a.rows ≤ c.loop-i.i = search rules in
-    keep-end _ proposal_rows no_proposal a.rows c.loop-i.i c.loop-i.j _ h c.loop-i.invariant.0 c.loop-i.invariant.1
+returns c = c.without.ensures (is_of_cycle c.args.c) (λ x r k. search rules)

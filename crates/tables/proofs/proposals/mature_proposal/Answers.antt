@@ -1,31 +1,15 @@
-use Prim.Native.Nat.{◌≤◌, ◌<◌}
-use mathlib.Core.Path.{refl, sym, ◌∙◌}
-use lib.ListN.{length}
-use Rattle.lists.proofs.Loops.{first-pass, first-fail, first-end}
+use Rattle.std.proofs.Common.{rules, tests, unwrap_or, sym, ap, ◌∙◌}
+use Rattle.std.proofs.lemmas.Iterator.{YieldsList-from_slice}
+use Rattle.std.proofs.lemmas.Iterator.Search.{find_from_yields_List}
+use Rattle.lists.proofs.Library.{first-is}
 use Rattle.state.specs.Rows.{no_proposal}
 use Rattle.tables.specs.Proposals.{is_mature, mature_proposal}
-use borrow.Author.Rules.{rules}
 use Rattle.tables.proofs.proposals.mature_proposal.Goals as goal
-
-pub loop-i-init : goal.loop-i-init
-loop-i-init c = refl
-
-pub returns-then-is_mature : goal.returns-then-is_mature
-unfolding mature_proposal
-returns-then-is_mature c =
-    let h : c.loop-i.i < length c.args.rows = search rules in
-    sym (c.loop-i.invariant ∙ first-pass (is_mature c.args.notices c.args.subject c.args.announced) c.args.rows
-    c.loop-i.i _ h no_proposal (sym c.is_mature.ensures ∙ c.if-is_mature.true))
-
-pub loop-i-preserved : goal.loop-i-preserved
-loop-i-preserved c =
-    let h : c.loop-i.i < length c.args.rows = search rules in
-    c.loop-i.invariant ∙ first-fail (is_mature c.args.notices c.args.subject c.args.announced) c.args.rows c.loop-i.i _ h no_proposal
-    (sym c.is_mature.ensures ∙ c.if-is_mature.false)
 
 pub returns : goal.returns
 unfolding mature_proposal
 returns c =
-    let h : length c.args.rows ≤ c.loop-i.i = search rules in
-    sym (c.loop-i.invariant ∙ first-end (is_mature c.args.notices c.args.subject c.args.announced)
-    c.args.rows c.loop-i.i h no_proposal)
+    let a = c.args in
+    let mature = is_mature a.notices a.subject a.announced in
+    let found = find_from_yields_List mature _ _ c.find.result c.find.ensures.ran (YieldsList-from_slice a.rows cc) (λ x b q k. search (rules, tests)) in
+    c.unwrap_or.ensures ∙ ap (λ o. unwrap_or o no_proposal) (c.copied.ensures ∙ found) ∙ sym (first-is mature no_proposal a.rows)

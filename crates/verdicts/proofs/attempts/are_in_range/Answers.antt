@@ -1,4 +1,6 @@
 use borrow.Author.Rules.{rules}
+use mathlib.Core.Path.{◌≡◌, sym, ◌∙◌}
+use Rattle.std.specs.List.{list_all}
 use Rattle.lists.proofs.Library.{all-is}
 use Rattle.verdicts.specs.Attempts.{are_in_range}
 use Rattle.verdicts.proofs.Misses.{within}
@@ -6,4 +8,6 @@ use Rattle.verdicts.proofs.attempts.are_in_range.Goals as goal
 
 pub returns : goal.returns
 unfolding are_in_range
-returns c = all-is within 0 c.args.counts.misses c.all.result (search rules) (search rules)
+returns c =
+    let every : c.all.result ≡ list_all within c.args.counts.misses = search rules in
+    every ∙ sym (all-is within c.args.counts.misses)

@@ -1,0 +1,76 @@
+// What the tables have in common: the used rows first, and then unused ones, which are one value.
+ghost use Rattle.std.specs.Prelude.{◌≡◌, ◌-◌, ◌<◌, Bool, not, get_or};
+ghost use Rattle.lists.specs.Fold.{count};
+ghost use Rattle.lists.specs.Table.{keep, fill};
+ghost use Rattle.state.specs.Rows.{no_proposal, is_proposal, no_login, is_login};
+
+use state::{Login, NO_LOGIN, NO_PROPOSAL, Proposal};
+
+pub trait Row: Copy {
+    // Which rows are used, and the unused row.
+    ghost used: { Self → Bool };
+
+    ghost UNUSED: { Self };
+
+    const UNUSED: Self;
+
+    fn is_used(self) -> bool
+        ensures { result ≡ used self };
+}
+
+impl Row for Proposal {
+    ghost used = { is_proposal };
+
+    ghost UNUSED = { no_proposal };
+
+    const UNUSED: Proposal = NO_PROPOSAL;
+
+    fn is_used(self) -> bool {
+        Proposal::is_used(self)
+    }
+}
+
+impl Row for Login {
+    ghost used = { is_login };
+
+    ghost UNUSED = { no_login };
+
+    const UNUSED: Login = NO_LOGIN;
+
+    fn is_used(self) -> bool {
+        Login::is_used(self)
+    }
+}
+
+// The number of used rows.
+pub fn count_used<T: Row, const N: usize>(rows: [T; N]) -> u8
+    requires { N < 256 }
+    ensures { result ≡ count T.used rows }
+{
+    rows.iter().filter(|row| row.is_used()).count() as u8
+}
+
+// Whether the last row is used.
+pub fn is_full<T: Row, const N: usize>(rows: [T; N]) -> bool
+    requires { 0 < N }
+    ensures { result ≡ T.used (get_or rows (N - 1) T.UNUSED) }
+{
+    rows[N - 1].is_used()
+}
+
+// The table without the rows that are dropped.
+pub fn without<T: Row, F: Fn(T) -> bool, const N: usize>(rows: [T; N], drops: F) -> [T; N]
+    requires { F.IsAlwaysCallable drops }
+    ensures { (dropped : T → Bool) → ((x : T) (r : Bool) → F.post drops x r → r ≡ dropped x)
+        → result ≡ fill N T.UNUSED (keep (λ r. not (dropped r)) rows) }
+{
+    let mut out = [T::UNUSED; N];
+    let mut j = 0;
+    for row in rows {
+        if !drops(row) {
+            out[j] = row;
+            j += 1;
+        }
+    }
+    out
+}

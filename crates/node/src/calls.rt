@@ -21,7 +21,7 @@ use refusals::Refusal;
 use rules::find;
 use state::limits::SEATS;
 use state::{Day, NO_SEAT, State, blank_state};
-use tables::logins::count_logins;
+use tables::count_used;
 use tables::proposals::{drop_lapsed, has_lapsed};
 use verdicts::{
     Own, deliver_refusal, no_misses, own_afresh, shows_quorum, start_refusal, vote_refusal,
@@ -185,7 +185,7 @@ impl Node {
         ensures value { reply page_answer result ≡ page_of self out.old }
         ensures out_after { out.new ≡ page_slice self day out.old }
     {
-        let lines = count_logins(self.state.logins);
+        let lines = count_used(self.state.logins);
         if out.len() < LINE_SIZE * usize::from(lines) {
             return self.refused(Refusal::NoPageRoom);
         }

@@ -15,8 +15,9 @@ use records::Action;
 use refusals::{Refusal, refuse_if};
 use state::seats::{CERTIFIED, FREE, PRESENT, quorum};
 use state::{Day, Seat, State};
+use tables::is_full;
 use tables::logins::is_listed;
-use tables::proposals::{has_proposal, proposals_full};
+use tables::proposals::has_proposal;
 
 // Rule 12, with p, m and k after the action.
 #[tactic(auto, unfolding(crate::specs::Rules::quorum_refusal))]
@@ -58,7 +59,7 @@ pub fn propose_check(s: State, action: Action) -> Result<(), Refusal>
     let Action::Propose { subject } = action else {
         return Err(Refusal::Malformed);
     };
-    refuse_if(proposals_full(s.proposals), Refusal::TableFull)
+    refuse_if(is_full(s.proposals), Refusal::TableFull)
 }
 
 #[tactic(auto, unfolding(crate::specs::Rules::check_refusal))]
@@ -142,11 +143,8 @@ pub fn grant_check(found: Found, d: Day, action: Action) -> Result<(), Refusal>
     let Action::Grant { row } = action else {
         return Err(Refusal::Malformed);
     };
-    let eviction = found.eviction;
-    refuse_if(
-        eviction.needed & !eviction.row.is_ended(d),
-        Refusal::TableFull,
-    )?;
+    let kept = found.eviction.is_some_and(|evicted| !evicted.is_ended(d));
+    refuse_if(kept, Refusal::TableFull)?;
     refuse_if(row.end < d, Refusal::TooLow)
 }
 

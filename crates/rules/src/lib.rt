@@ -25,10 +25,9 @@ use state::kinds::{CANCEL, CERTIFY, END, GRANT, MINIMA, PRESENTS, PROPOSE, REJOI
 use state::limits::LAST_CYCLE;
 use state::seats::{present_seats, seat_at};
 use state::trustees::is_majority;
-use state::{Cycle, Day, Proposal, Seat, State};
+use state::{Cycle, Day, Login, Proposal, Seat, State};
 use tables::logins::eviction_for;
 use tables::proposals::mature_proposal;
-use tables::{Eviction, NO_EVICTION};
 
 // What the rules ask of the tables and the action uses.
 #[derive(Clone, Copy)]
@@ -40,15 +39,15 @@ pub struct Found {
     // The mature proposal that the action needs, unused where there is none.
     pub notice: Proposal,
     // What a grant evicts.
-    pub eviction: Eviction,
+    pub eviction: Option<Login>,
 }
 
 // What a grant evicts; no other action does.
-fn eviction_of(s: State, action: Action) -> Eviction
+fn eviction_of(s: State, action: Action) -> Option<Login>
     ensures { (y : Login) → action ≡ Grant y → result ≡ eviction_for y.login s.logins }
 {
     let Action::Grant { row } = action else {
-        return NO_EVICTION;
+        return None;
     };
     eviction_for(s.logins, row.login)
 }

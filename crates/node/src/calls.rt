@@ -107,6 +107,15 @@ impl Node {
         start_read(state_in(checkpoint), x)
     }
 
+    fn given<T>(self, answer: T) -> Reply<T>
+        ensures { result ≡ record { node = self; answer = Ok answer } }
+    {
+        Reply {
+            node: self,
+            answer: Ok(answer),
+        }
+    }
+
     fn refused<T>(self, refusal: Refusal) -> Reply<T>
         ensures { result ≡ record { node = self; answer = Err refusal } }
     {
@@ -173,10 +182,7 @@ impl Node {
             return self.refused(Refusal::NoRoom);
         }
         write_checkpoint(self.state, out);
-        Reply {
-            node: self,
-            answer: Ok(()),
-        }
+        self.given(())
     }
 
     // Writes the access page of the day to the front of the slice, where it has room.
@@ -190,9 +196,6 @@ impl Node {
             return self.refused(Refusal::NoPageRoom);
         }
         write_page(self.state, day, out);
-        Reply {
-            node: self,
-            answer: Ok(lines),
-        }
+        self.given(lines)
     }
 }

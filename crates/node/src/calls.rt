@@ -149,7 +149,8 @@ impl Node {
             return self.refused(refusal);
         }
         if shows_quorum(seen, found.present, sheet) {
-            return leave(advance(seen, found, a), self.own);
+            let next = advance(seen, found, a);
+            return leave(next, self.own);
         }
         if let Err(refusal) = vote_refusal(held, self.own, announcement) {
             return self.refused(refusal);

@@ -64,7 +64,7 @@ returns-then-shows_quorum c =
     delivered (goal.at.returns-then-shows_quorum c).Else-not-is_sheet _
     (by-quorum n _ _ _ _ seen (c.in_default-deliver_refusal.ensures n.own own_seat) refl
     (sym (c.shows_quorum.ensures ∙ same-quorum n _ _ seen) ∙ c.if-shows_quorum.true)
-    (c.leave.ensures ∙ ap (λ (s : State). leaves s n.own) c.advance.ensures))
+    (c.leave.ensures ∙ ap (λ (s : State). leaves s n.own) c.advance-next.ensures))
 
 pub vote_refusal-requires : goal.vote_refusal-requires
 vote_refusal-requires c = announcement-size c.args.announcement.now _ (sym c.read_announcement.ensures ∙ c.in-Some.is)

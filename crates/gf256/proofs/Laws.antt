@@ -240,3 +240,5 @@ divide-logs a b l m e f h hb n =
     let whole : mul b i ≡ 1 =
     ap (λ (x : ℕ). mul x i) (sym f) ∙ power-add 3 m (255 - m) ∙ ap (λ (k : ℕ). power k 3) (let s : m + (255 - m) ≡ 255 * 1 = omega arith in s) ∙ cycle 1 in
     mul-logs a (inverse b) l (255 - m) e (inverse-only b i hb n (power-byte (255 - m) 3) whole)
+
+pub ruleset by_logarithms = (zero-mul, mul-zero, inverse-zero, power-again, mul-logs, divide-logs)

@@ -1,12 +1,13 @@
 -- What the loops over shares and key bytes write.
 use mathlib.Core.Path.{◌≡◌, refl, sym, ap, ap₂, ◌∙◌}
 use mathlib.Core.List.{List, ◌++◌}
-use Prim.Native.Nat.{ℕ, suc, ◌+◌, ◌-◌, ◌*◌, ◌≤◌}
-use native.Mathlib.Nat.{zero-add, sub-zero}
+use Prim.Native.Nat.{ℕ, suc, ◌+◌, ◌*◌, ◌≤◌}
+use native.Mathlib.Nat.{zero-add}
 use native.Mathlib.Numerals.{add-one}
 use native.Mathlib.Omega.{arith}
-use lib.ListN.{length, take, drop, get_or, length-append}
-use lib.Seq.{take_all, take_at, length-take-le}
+use lib.ListN.{length, take, drop, get_or}
+use borrow.Rule.Slice.PartMut.{put_mid}
+use lib.Seq.{take_all, length-take-le, drop-drop}
 use Rattle.binary.specs.Number.{Bytes, overwrite}
 use Rattle.binary.specs.Splice.{splice}
 use Rattle.binary.proofs.Splices.{splice-overwrite, splice-splice}
@@ -57,24 +58,19 @@ merged-key numbers shares h =
     (tabulate-bytes (length numbers) (λ j. get_or shares (key_size * j + b) 0) (λ j. h (key_size * j + b)))
     ∙ ap (λ (l : List ℕ). value_at_zero l ys) (sym (take_all (length numbers) numbers (omega arith))))
 
--- the weights stand at the front of their table
-pub front_fits : (ws rest : List ℕ) (k : ℕ) → length ws ≡ k → k ≤ length (ws ++ rest)
-front_fits ws rest k e = omega (arith, length-append ws rest)
-
-pub front-is : (ws rest : List ℕ) (k : ℕ) → length ws ≡ k → take (k - 0) (drop 0 (ws ++ rest)) ≡ ws
-front-is ws rest k e = ap (λ (n : ℕ). take n (ws ++ rest)) (sub-zero k) ∙ take_at ws rest k e
-
 -- ---- the first k numbers, as a slice of their own
 
-module _ (k : ℕ) (numbers : List ℕ) where
-  pub length_front : k ≤ length numbers → length (take (k - 0) (drop 0 numbers)) ≡ k
-  length_front h = ap (λ (n : ℕ). length (take n numbers)) (sub-zero k) ∙ length-take-le k numbers h
+pub merged-front : (k : ℕ) (numbers shares : List ℕ) → k ≤ length numbers → let front = take k numbers in
+    merged_key (length front) front shares ≡ merged_key k numbers shares
+unfolding merged_key
+merged-front k numbers shares h =
+    let size : length (take k numbers) ≡ k = length-take-le k numbers h in
+    ap (λ (n : ℕ). merged_key n (take k numbers) shares) size
+    ∙ ap (λ (l : List ℕ). tabulate key_size (λ b. value_at_zero l (bytes_of k shares b))) (take_all k (take k numbers) (omega arith))
 
-  pub merged-front : (shares : List ℕ) → k ≤ length numbers → let front = take (k - 0) (drop 0 numbers) in
-      merged_key (length front) front shares ≡ merged_key k numbers shares
-  unfolding merged_key
-  merged-front shares h =
-      let same : take k (take (k - 0) (drop 0 numbers)) ≡ take k numbers =
-      ap (λ (n : ℕ). take k (take n numbers)) (sub-zero k) ∙ take_all k (take k numbers) (omega (arith, length-take-le k numbers h)) in
-      ap (λ (n : ℕ). merged_key n (take (k - 0) (drop 0 numbers)) shares) (length_front h)
-      ∙ ap (λ (l : List ℕ). tabulate key_size (λ b. value_at_zero l (bytes_of k shares b))) same
+-- ---- a part of a slice that is copied to
+
+pub written : (n at k : ℕ) (d v w : List ℕ) → v ≡ w → k ≡ n → length w ≡ n → put_mid at k d v ≡ splice d at w
+unfolding splice
+written n at k d v w e f s =
+    ap₂ (λ (l : List ℕ) (m : ℕ). take at d ++ (l ++ drop m (drop at d))) e (f ∙ sym s) ∙ ap (λ (l : List ℕ). take at d ++ (w ++ l)) (drop-drop (length w) at d)

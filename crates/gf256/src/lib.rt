@@ -37,15 +37,41 @@ fn power(i: usize) -> u8
     }
 }
 
-#[tactic(auto, using(crate::proofs::Laws::by_logarithms))]
+// A factor of many products, whose logarithm is read once.
+#[derive(Clone, Copy, Debug, PartialEq, Eq)]
+pub struct Factor {
+    pub byte: u8,
+    log: usize,
+    ghost log_below: { log < 255 },
+    ghost log_is: { byte ≢ 0 → power_of log 3 ≡ byte },
+}
+
+impl Factor {
+    pub fn new(byte: u8) -> Self
+        ensures { result.byte ≡ byte }
+    {
+        Factor {
+            byte,
+            log: log(byte),
+        }
+    }
+
+    #[tactic(auto, using(crate::proofs::Laws::by_logarithms))]
+    pub fn times(self, b: u8) -> u8
+        ensures { result ≡ mul_of self.byte b }
+    {
+        if self.byte == 0 || b == 0 {
+            0
+        } else {
+            power(self.log + log(b))
+        }
+    }
+}
+
 pub fn mul(a: u8, b: u8) -> u8
     ensures { result ≡ mul_of a b }
 {
-    if a == 0 || b == 0 {
-        0
-    } else {
-        power(log(a) + log(b))
-    }
+    Factor::new(a).times(b)
 }
 
 #[tactic(auto, using(crate::proofs::Laws::by_logarithms))]

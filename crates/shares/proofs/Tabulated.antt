@@ -84,8 +84,8 @@ module _ {d l : List ℕ} {i : ℕ} {f : ℕ → ℕ} (so_far : Tabulated d i f 
 
 -- ---- rows that are made step by step
 
-pub row-start : (n : ℕ) (f : ℕ → ℕ) → ((b : ℕ) → b < n → 0 ≡ f b) → replicate n 0 ≡ tabulate n f
-row-start n f none = sym (tabulate-same n f (replicate n 0) (length-replicate n 0) (λ b h. sym (get_or-replicate n b 0 0 h ∙ none b h)))
+pub row-start : (n : ℕ) (d : List ℕ) (f : ℕ → ℕ) → d ≡ replicate n 0 → ((b : ℕ) → b < n → 0 ≡ f b) → d ≡ tabulate n f
+row-start n d f e none = e ∙ sym (tabulate-same n f (replicate n 0) (length-replicate n 0) (λ b h. sym (get_or-replicate n b 0 0 h ∙ none b h)))
 
 -- the row was given by f, and each byte is changed to what g gives
 pub row_step : (n : ℕ) (d d' : List ℕ) (f v g : ℕ → ℕ) → d ≡ tabulate n f → d' ≡ tabulate n v

@@ -1,7 +1,7 @@
 -- What the loops over shares and key bytes write.
 use mathlib.Core.Path.{◌≡◌, refl, sym, ap, ap₂, ◌∙◌}
 use mathlib.Core.List.{List, ◌++◌}
-use Prim.Native.Nat.{ℕ, suc, ◌+◌, ◌*◌, ◌≤◌}
+use Prim.Native.Nat.{ℕ, suc, ◌+◌, ◌-◌, ◌*◌, ◌≤◌}
 use native.Mathlib.Nat.{zero-add}
 use native.Mathlib.Numerals.{add-one}
 use native.Mathlib.Omega.{arith}
@@ -17,6 +17,13 @@ use Rattle.shares.specs.Code.{weights, weighted_sum, weighed_key}
 use Rattle.shares.proofs.Tabulated.{tabulate-length, tabulate-ext, tabulate-bytes}
 use Rattle.shares.proofs.Parts.{joined_length}
 use Rattle.shares.proofs.Weighing.{weights-length, sum-is-value}
+
+-- ---- a part of a slice that is written to
+
+written : (at k : ℕ) (d : List ℕ) {v w : List ℕ} → v ≡ w → k ≡ length w → put_mid at k d v ≡ splice d at w
+unfolding splice
+written at k d {v} {w} e s =
+    ap₂ (λ (l : List ℕ) (m : ℕ). take at d ++ (l ++ drop m (drop at d))) e s ∙ ap (λ (l : List ℕ). take at d ++ (w ++ l)) (drop-drop (length w) at d)
 
 -- ---- shares
 
@@ -34,12 +41,12 @@ module _ (k : ℕ) (key cs : List ℕ) where
   shares-none d = refl
 
   -- one share more
-  pub shares-more : (d₀ d d' : List ℕ) (n x : ℕ) → d ≡ overwrite (shares_of k key cs n) d₀ → x ≡ n + 1 → key_size * n ≤ length d₀
-      → d' ≡ splice d (key_size * n) (share_of k key cs x) → d' ≡ overwrite (shares_of k key cs (n + 1)) d₀
+  pub shares-more : (d₀ d row : List ℕ) (n x : ℕ) → d ≡ overwrite (shares_of k key cs n) d₀ → x ≡ n + 1 → key_size * n ≤ length d₀
+      → row ≡ share_of k key cs x → put_mid (key_size * n) (key_size * n + key_size - key_size * n) d row ≡ overwrite (shares_of k key cs (n + 1)) d₀
   unfolding shares_of joined
-  shares-more d₀ d d' n x w e h s =
+  shares-more d₀ d row n x w e h s =
       let at : 0 + length (shares_of k key cs n) ≡ key_size * n = zero-add (length (shares_of k key cs n)) ∙ shares-length n in
-      s
+      written (key_size * n) (key_size * n + key_size - key_size * n) d s (omega (arith, share-length x))
       ∙ ap₂ (λ (l : List ℕ) (i : ℕ). splice l (key_size * n) (share_of k key cs i)) (w ∙ sym (splice-overwrite d₀ (shares_of k key cs n))) (e ∙ add-one n)
       ∙ splice-splice d₀ 0 (key_size * n) (shares_of k key cs n) (share_of k key cs (suc n)) at h
       ∙ splice-overwrite d₀ (shares_of k key cs (suc n))
@@ -60,17 +67,22 @@ merged-key numbers shares h =
 
 -- ---- the first k numbers, as a slice of their own
 
-pub merged-front : (k : ℕ) (numbers shares : List ℕ) → k ≤ length numbers → let front = take k numbers in
-    merged_key (length front) front shares ≡ merged_key k numbers shares
-unfolding merged_key
-merged-front k numbers shares h =
-    let size : length (take k numbers) ≡ k = length-take-le k numbers h in
-    ap (λ (n : ℕ). merged_key n (take k numbers) shares) size
-    ∙ ap (λ (l : List ℕ). tabulate key_size (λ b. value_at_zero l (bytes_of k shares b))) (take_all k (take k numbers) (omega arith))
+module _ (k : ℕ) (numbers shares : List ℕ) (h : k ≤ length numbers) where
+  abbrev front : List ℕ
+  front = take k numbers
 
--- ---- a part of a slice that is copied to
+  merged-front : merged_key (length front) front shares ≡ merged_key k numbers shares
+  unfolding merged_key
+  merged-front =
+      let size : length front ≡ k = length-take-le k numbers h in
+      ap (λ (n : ℕ). merged_key n front shares) size
+      ∙ ap (λ (l : List ℕ). tabulate key_size (λ b. value_at_zero l (bytes_of k shares b))) (take_all k front (omega arith))
 
-pub written : (n at k : ℕ) (d v w : List ℕ) → v ≡ w → k ≡ n → length w ≡ n → put_mid at k d v ≡ splice d at w
-unfolding splice
-written n at k d v w e f s =
-    ap₂ (λ (l : List ℕ) (m : ℕ). take at d ++ (l ++ drop m (drop at d))) e (f ∙ sym s) ∙ ap (λ (l : List ℕ). take at d ++ (w ++ l)) (drop-drop (length w) at d)
+  merged-length : length (merged_key k numbers shares) ≡ key_size
+  unfolding merged_key
+  merged-length = tabulate-length key_size (λ b. value_at_zero front (bytes_of k shares b))
+
+  -- their key at the front of a slice
+  pub merged-written : (row out : List ℕ) → row ≡ merged_key (length front) front shares → row ++ drop key_size out ≡ overwrite (merged_key k numbers shares) out
+  unfolding overwrite
+  merged-written row out e = ap₂ (λ (l : List ℕ) (n : ℕ). l ++ drop n out) (e ∙ merged-front) (sym merged-length)

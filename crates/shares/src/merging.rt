@@ -1,10 +1,10 @@
 // The key of k shares.
-ghost use Rattle.std.specs.Prelude.{◌≡◌, ◌++◌, ◌*◌, ◌≤◌, length, take, drop};
+ghost use Rattle.std.specs.Prelude.{◌≡◌, ◌*◌, ◌≤◌, length};
 ghost use Rattle.shares.specs.Shares.{key_size, most_shares, merged_key, are_numbers};
 ghost use Rattle.shares.specs.Calls.{merge_of};
 ghost use Rattle.shares.specs.Code.{weighed, total, weights as weights_of, weighed_key};
 
-use crate::rows::{Row, add_row, put_row};
+use crate::rows::add_row;
 use crate::scheme::Scheme;
 use crate::{KEY_SIZE, MOST_SHARES};
 use gf256::{divide, mul, sum};
@@ -48,27 +48,28 @@ fn put_weights(numbers: &[u8], weights: &mut [u8])
     }
 }
 
-// The sum of the shares, each times its weight.
-fn weighed_sum(weights: &[u8], shares: &[u8]) -> Row
-    requires { (length weights.now ≤ most_shares) × (key_size * length weights.now ≤ length shares.now) }
-    ensures { result ≡ weighed_key weights.now shares.now }
+// Writes the sum of the shares, each times its weight.
+fn put_sum(row: &mut [u8], weights: &[u8], shares: &[u8])
+    requires row_len { length row.old ≡ key_size }
+    requires shares_long { (length weights.now ≤ most_shares) × (key_size * length weights.now ≤ length shares.now) }
+    ensures { row.new ≡ weighed_key weights.now shares.now }
 {
-    let mut row = [0; KEY_SIZE];
+    row.fill(0);
     for (j, &weight) in weights.iter().enumerate() {
-        add_row(&mut row, weight, &shares[KEY_SIZE * j..]);
+        add_row(row, weight, &shares[KEY_SIZE * j..]);
     }
-    row
 }
 
-// The key of the shares with these numbers.
-fn key_of(numbers: &[u8], shares: &[u8]) -> Row
-    requires { (length numbers.now ≤ most_shares) × (key_size * length numbers.now ≤ length shares.now) }
-    ensures { result ≡ merged_key (length numbers.now) numbers.now shares.now }
+// Writes the key of the shares with these numbers.
+fn put_key(row: &mut [u8], numbers: &[u8], shares: &[u8])
+    requires row_len { length row.old ≡ key_size }
+    requires shares_long { (length numbers.now ≤ most_shares) × (key_size * length numbers.now ≤ length shares.now) }
+    ensures { row.new ≡ merged_key (length numbers.now) numbers.now shares.now }
 {
     let mut weights = [0; MOST_SHARES];
     let weights = &mut weights[..numbers.len()];
     put_weights(numbers, weights);
-    weighed_sum(weights, shares)
+    put_sum(row, weights, shares);
 }
 
 // The key of the first k shares, which come in the order of their numbers.
@@ -91,6 +92,6 @@ pub fn merge_shares(
     if given < needed || shares.len() < KEY_SIZE * needed || out.len() < KEY_SIZE {
         return Err(Refusal::TooShort);
     }
-    put_row(out, 0, &key_of(&numbers[..needed], shares));
+    put_key(&mut out[..KEY_SIZE], &numbers[..needed], shares);
     Ok(())
 }

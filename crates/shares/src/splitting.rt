@@ -1,11 +1,11 @@
 // A key split into shares.
-ghost use Rattle.std.specs.Prelude.{◌≡◌, ◌*◌, ◌-◌, ◌≤◌, leb, ◌&&◌, true, false, length, IfOk, IfErr};
+ghost use Rattle.std.specs.Prelude.{◌≡◌, ◌*◌, ◌-◌, ◌≤◌, length};
 ghost use Rattle.binary.specs.Number.{overwrite};
 ghost use Rattle.shares.specs.Shares.{key_size, most_shares, share_of, shares_of};
-ghost use Rattle.shares.specs.Calls.{holds, split_of};
+ghost use Rattle.shares.specs.Calls.{split_of};
 
 use crate::KEY_SIZE;
-use crate::rows::{Row, put_row, step_row};
+use crate::rows::step_row;
 use crate::scheme::Scheme;
 use refusals::Refusal;
 
@@ -21,17 +21,17 @@ struct Polynomials<'a> {
 }
 
 impl Polynomials<'_> {
-    // Their values at x, by Horner's rule for all bytes at once.
-    fn share(&self, x: u8) -> Row
-        ensures { result ≡ share_of self.now.needed self.now.key.now self.now.coefficients.now x }
+    // Writes their values at x, by Horner's rule for all bytes at once.
+    fn put_share(&self, x: u8, row: &mut [u8])
+        requires { length row.old ≡ key_size }
+        ensures { row.new ≡ share_of self.now.needed self.now.key.now self.now.coefficients.now x }
     {
         let degree = self.needed - 1;
-        let mut row = [0; KEY_SIZE];
+        row.fill(0);
         for i in (0..degree).rev() {
-            step_row(&mut row, x, &self.coefficients[i..], degree);
+            step_row(row, x, &self.coefficients[i..], degree);
         }
-        step_row(&mut row, x, self.key, 1);
-        row
+        step_row(row, x, self.key, 1);
     }
 }
 
@@ -41,8 +41,8 @@ fn put_shares(out: &mut [u8], polynomials: &Polynomials, n: usize)
     ensures { out.new ≡ overwrite (shares_of polynomials.now.needed polynomials.now.key.now polynomials.now.coefficients.now n) out.old }
 {
     for i in 0..n {
-        let share = polynomials.share((i + 1) as u8);
-        put_row(out, KEY_SIZE * i, &share);
+        let at = KEY_SIZE * i;
+        polynomials.put_share((i + 1) as u8, &mut out[at..at + KEY_SIZE]);
     }
 }
 

@@ -1,5 +1,5 @@
-use Rattle.std.proofs.Common.{ap₂, ◌∙◌, arith}
-use Rattle.gf256.specs.Field.{add}
+use Rattle.std.proofs.Common.{ap, ap₂, ◌∙◌, arith, ℕ, get_or}
+use Rattle.gf256.specs.Field.{add, mul}
 use Rattle.shares.specs.Shares.{key_size}
 use Rattle.shares.proofs.Tabulated.{tabulated_none, tabulated_more, tabulated_next, tabulated_all}
 use Rattle.shares.proofs.rows.add_row.Goals as goal
@@ -10,7 +10,8 @@ loop-b-init c = tabulated_none _ _
 pub loop-b-preserved : goal.loop-b-preserved
 loop-b-preserved c =
     let l = c.loop-b in
-    tabulated_more l.invariant (omega arith) (c.sum.ensures ∙ ap₂ add (tabulated_next l.invariant) c.mul.ensures)
+    let product = c.times-product.ensures ∙ ap (λ (w : ℕ). mul w (get_or c.args.share.now l.b 0)) c.new-weight.ensures in
+    tabulated_more l.invariant (omega arith) (c.sum.ensures ∙ ap₂ add (tabulated_next l.invariant) product)
 
 pub returns : goal.returns
 returns c = tabulated_all c.loop-b.invariant key_size (omega arith) (omega arith)

@@ -4,4 +4,4 @@ use Rattle.shares.proofs.Tabulated.{Tabulated}
 use Rattle.shares.proofs.rows.add_row.Given as goal
 
 abbrev pub invariant-loop-b : goal.invariant-loop-b
-invariant-loop-b l = Tabulated l.initial.row l.b (λ b. add (get_or l.initial.row b 0) (mul l.weight (get_or l.share b 0))) l.row
+invariant-loop-b l = Tabulated l.initial.row l.b (λ b. add (get_or l.initial.row b 0) (mul l.fn.weight (get_or l.share b 0))) l.row

@@ -4,4 +4,4 @@ use Rattle.shares.proofs.Tabulated.{Tabulated}
 use Rattle.shares.proofs.rows.step_row.Given as goal
 
 abbrev pub invariant-loop-b : goal.invariant-loop-b
-invariant-loop-b l = Tabulated l.initial.row l.b (λ b. add (get_or l.source (l.stride * b) 0) (mul l.x (get_or l.initial.row b 0))) l.row
+invariant-loop-b l = Tabulated l.initial.row l.b (λ b. add (get_or l.source (l.stride * b) 0) (mul l.fn.x (get_or l.initial.row b 0))) l.row

@@ -1,6 +1,4 @@
-use Rattle.std.proofs.Common.{refl, ap, ◌∙◌, ◌*◌, arith}
-use Rattle.binary.specs.Splice.{splice}
-use Rattle.shares.specs.Shares.{key_size}
+use Rattle.std.proofs.Common.{refl, arith}
 use Rattle.shares.proofs.Writes.{shares-none, shares-more}
 use Rattle.shares.proofs.splitting.put_shares.Goals as goal
 
@@ -13,5 +11,4 @@ pub loop-i-preserved : goal.loop-i-preserved
 loop-i-preserved c =
     let p = c.args.polynomials.now in
     let l = c.loop-i in
-    let put = c.put_row.ensures ∙ ap (splice l.out (key_size * l.i)) c.share-share.ensures in
-    shares-more p.needed p.key.now p.coefficients.now c.args.out.now l.out _ l.i _ l.invariant refl (omega arith) put
+    shares-more p.needed p.key.now p.coefficients.now c.args.out.now l.out _ l.i _ l.invariant refl (omega arith) c.put_share.ensures

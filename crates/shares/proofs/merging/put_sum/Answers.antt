@@ -1,12 +1,14 @@
-use Rattle.std.proofs.Common.{arith}
+use Rattle.std.proofs.Common.{◌≡◌, replicate, arith, rules}
 use Rattle.shares.specs.Shares.{key_size}
 use Rattle.shares.proofs.Tabulated.{row-start, row_step}
 use Rattle.shares.proofs.Turns.{sum_up_to, sum-none}
 use Rattle.shares.proofs.Steps.{added, all-added}
-use Rattle.shares.proofs.merging.weighed_sum.Goals as goal
+use Rattle.shares.proofs.merging.put_sum.Goals as goal
 
 pub loop-j-init : goal.loop-j-init
-loop-j-init c = row-start key_size _ (λ b _. sum-none c.args.weights.now c.args.shares.now b)
+loop-j-init c =
+    let zeros : c.fill.new.self ≡ replicate key_size 0 = search rules in
+    row-start key_size _ _ zeros (λ b _. sum-none c.args.weights.now c.args.shares.now b)
 
 pub loop-j-preserved : goal.loop-j-preserved
 loop-j-preserved c =

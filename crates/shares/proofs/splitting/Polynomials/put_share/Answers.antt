@@ -1,13 +1,14 @@
-use Rattle.std.proofs.Common.{◌≡◌, ap, ◌∙◌, ℕ, arith}
+use Rattle.std.proofs.Common.{◌≡◌, ap, ◌∙◌, ℕ, replicate, arith, rules}
 use Rattle.shares.specs.Shares.{key_size, tabulate, share_of}
 use Rattle.shares.proofs.Tabulated.{row-start, row_step}
 use Rattle.shares.proofs.Steps.{value_from, value_none, value-turn, value-end}
-use Rattle.shares.proofs.splitting.Polynomials.share.Goals as goal
+use Rattle.shares.proofs.splitting.Polynomials.put_share.Goals as goal
 
 pub loop-i-init : goal.loop-i-init
 loop-i-init c =
     let p = c.args.self.now in
-    row-start key_size _ (value_none p.needed c.args.x p.key.now p.coefficients.now p.coefficients_long)
+    let zeros : c.fill.new.self ≡ replicate key_size 0 = search rules in
+    row-start key_size _ _ zeros (value_none p.needed c.args.x p.key.now p.coefficients.now p.coefficients_long)
 
 pub loop-i-preserved : goal.loop-i-preserved
 loop-i-preserved c =

@@ -4,11 +4,11 @@
 ghost use Rattle.std.specs.Prelude.{◌≡◌, ◌≢◌, ◌<◌};
 ghost use Rattle.gf256.specs.Field.{add, mul as mul_of, power as power_of, divide as divide_of};
 
-use logarithm_table::logarithms;
-use power_table::powers;
-
 mod logarithm_table;
 mod power_table;
+
+pub use logarithm_table::logarithms;
+pub use power_table::powers;
 
 #[tactic(auto, unfolding(crate::specs::Field::add))]
 pub fn sum(a: u8, b: u8) -> u8

@@ -92,3 +92,6 @@ pub row_step : (n : ℕ) (d d' : List ℕ) (f v g : ℕ → ℕ) → d ≡ tabul
     → ((b : ℕ) → b < n → get_or d b 0 ≡ f b → v b ≡ g b) → d' ≡ tabulate n g
 row_step n d d' f v g e w step =
     w ∙ tabulate-ext n v g (λ b h. step b h (ap (λ (q : List ℕ). get_or q b 0) e ∙ tabulate-at n f b h))
+
+-- for the loops of the code
+pub ruleset tabulated = (tabulated_none, tabulated_more, tabulated_next, tabulated_all)

@@ -1,7 +1,7 @@
 -- One turn of each loop of the code, and its end. A loop that goes down stands before index i, of which it then takes the element at i - 1.
 use mathlib.Core.Path.{◌≡◌, refl, sym, ap, ap₂, subst, ◌∙◌}
 use mathlib.Core.Bool.{Bool, true, false, ◌&&◌, ◌||◌, not, and-false}
-use mathlib.Core.Logic.{◌≢◌, ◌⊎◌, inl, inr}
+use mathlib.Core.Logic.{◌≢◌}
 use mathlib.Core.List.{List, [], ◌∷◌, ◌++◌, append-nil}
 use Prim.Native.Nat.{ℕ, zero, suc, ◌+◌, ◌*◌, ◌-◌, ◌<◌, ◌≤◌}
 use native.Mathlib.Nat.{not-suc-le-zero, le_of_suc-le-suc, le_trans, le_of_eq, mul-suc, mul_comm, mul-le-mul_left}
@@ -224,10 +224,14 @@ module _ (n : ℕ) (xs : List ℕ) (i : ℕ) (h : i < length xs) where
   unfolding are_numbers
   turn = rw (again_is, add-one, drop-cons xs i 0 h)
 
-  pub numbers-refused : (here ≡ 0) ⊎ (n < here) ⊎ (again ≡ true) → are_numbers n (drop i xs) ≡ false
-  numbers-refused (inl e) = turn ∙ rw e
-  numbers-refused (inr (inl l)) = let f : leb here n ≡ false = grind (arith, nat_tests) in turn ∙ rw (f, and-false (leb 1 here))
-  numbers-refused (inr (inr e)) = turn ∙ rw (e, and-false (leb 1 here && leb here n))
+  pub numbers-zero : here ≡ 0 → are_numbers n (drop i xs) ≡ false
+  numbers-zero e = turn ∙ rw e
+
+  pub numbers-above : n < here → are_numbers n (drop i xs) ≡ false
+  numbers-above l = let f : leb here n ≡ false = grind (arith, nat_tests) in turn ∙ rw (f, and-false (leb 1 here))
+
+  pub numbers-again : again ≡ true → are_numbers n (drop i xs) ≡ false
+  numbers-again e = turn ∙ rw (e, and-false (leb 1 here && leb here n))
 
   pub numbers-turn : here ≢ 0 → here ≤ n → again ≡ false → are_numbers n (drop i xs) ≡ are_numbers n (drop (i + 1) xs)
   numbers-turn p l e = turn ∙ rw (le-leb 1 here (omega arith), le-leb here n l, e)
@@ -244,3 +248,8 @@ in-part d b h = le_trans (le_of_eq (sym (mul-suc d b))) (le_trans (mul-le-mul_le
 pub coefficients-length : (k : ℕ) (cs : List ℕ) (b : ℕ) → b < key_size → key_size * (k - 1) ≤ length cs → length (coefficients_of k cs b) ≡ k - 1
 coefficients-length k cs b h l =
     length-take-le (k - 1) (drop ((k - 1) * b) cs) (omega (arith, length-drop ((k - 1) * b) cs, in-part (k - 1) b h))
+
+-- for the loops of the code
+pub ruleset weighing = (weights-none, weights-turn)
+
+pub ruleset numbering = (numbers-zero, numbers-above, numbers-again, numbers-turn, numbers-end)

@@ -86,3 +86,6 @@ module _ (k : ℕ) (numbers shares : List ℕ) (h : k ≤ length numbers) where
   pub merged-written : (row out : List ℕ) → row ≡ merged_key (length front) front shares → row ++ drop key_size out ≡ overwrite (merged_key k numbers shares) out
   unfolding overwrite
   merged-written row out e = ap₂ (λ (l : List ℕ) (n : ℕ). l ++ drop n out) (e ∙ merged-front) (sym merged-length)
+
+-- for the loop over shares
+pub ruleset sharing = (shares-none, shares-more)

@@ -8,6 +8,7 @@ use gf256::sum;
 use refusals::Refusal;
 
 // Writes the sums of the bytes of two slices to the front of another, as many as the first has.
+#[tactic(auto, using(crate::proofs::Tabulated::tabulated))]
 fn put_sums(out: &mut [u8], first: &[u8], second: &[u8])
     requires { (length first.now ≤ length second.now) × (length first.now ≤ length out.old) }
     ensures { out.new ≡ overwrite (sums first.now second.now) out.old }

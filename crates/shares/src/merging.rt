@@ -11,6 +11,7 @@ use gf256::{divide, mul, sum};
 use refusals::Refusal;
 
 // Whether each number is from 1 to n, and none of them comes twice.
+#[tactic(auto, using(crate::proofs::Turns::numbering))]
 fn are_numbers(numbers: &[u8], n: usize) -> bool
     ensures { result ≡ are_numbers n numbers.now }
 {
@@ -38,6 +39,7 @@ fn weigh(x: u8, numbers: &[u8], weights: &mut [u8]) -> u8
 }
 
 // The weight of each number: what its share counts in the key.
+#[tactic(auto, using(crate::proofs::Turns::weighing))]
 fn put_weights(numbers: &[u8], weights: &mut [u8])
     requires { length numbers.now ≡ length weights.old }
     ensures { weights.new ≡ weights_of numbers.now }

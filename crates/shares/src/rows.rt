@@ -8,6 +8,7 @@ ghost use Rattle.shares.specs.Shares.{key_size, tabulate};
 use gf256::{Factor, sum};
 
 // A step of Horner's rule: the row times x, plus the bytes of a source, which lie a stride apart.
+#[tactic(auto, using(crate::proofs::Tabulated::tabulated))]
 pub fn step_row(row: &mut [u8], x: u8, source: &[u8], stride: usize)
     requires row_len { length row.old ≡ key_size }
     requires source_long { stride * 31 < length source.now }
@@ -21,6 +22,7 @@ pub fn step_row(row: &mut [u8], x: u8, source: &[u8], stride: usize)
 }
 
 // Adds a share times its weight to the row.
+#[tactic(auto, using(crate::proofs::Tabulated::tabulated))]
 pub fn add_row(row: &mut [u8], weight: u8, share: &[u8])
     requires row_len { length row.old ≡ key_size }
     requires share_long { key_size ≤ length share.now }

@@ -36,6 +36,7 @@ impl Polynomials<'_> {
 }
 
 // Writes shares 1 to n to the front of a slice.
+#[tactic(auto, using(crate::proofs::Writes::sharing))]
 fn put_shares(out: &mut [u8], polynomials: &Polynomials, n: usize)
     requires { (n ≤ most_shares) × (key_size * n ≤ length out.old) }
     ensures { out.new ≡ overwrite (shares_of polynomials.now.needed polynomials.now.key.now polynomials.now.coefficients.now n) out.old }

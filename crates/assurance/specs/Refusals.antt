@@ -9,10 +9,9 @@ use Rattle.records.specs.declared.Query.{Query}
 use Rattle.records.specs.StartQuery.{read_query}
 use Rattle.roster.specs.declared.RosterAnswer.TheVariants as Roster
 use Rattle.roster.specs.Calls.{import_of, export_of}
-use Rattle.shares.specs.declared.SplitAnswer.TheVariants as Split
-use Rattle.shares.specs.declared.MergeAnswer.TheVariants as Merge
-use Rattle.shares.specs.declared.AddAnswer.TheVariants as Add
 use Rattle.shares.specs.Calls.{split_of, merge_of, add_of}
+use Rattle.std.specs.Prelude.{Err}
+use Rattle.refusals.specs.declared.Refusal as Row
 use Rattle.node.specs.declared.Node.{Node}
 use Rattle.node.specs.CheckpointAnswer.{Refused}
 use Rattle.node.specs.PageAnswer as Page
@@ -120,10 +119,10 @@ pub record SlicesKept : Type 0 where
   -- and what a split returns
   pub shares-split : (key : List ℕ) (k n : ℕ) (cs out : List ℕ) → (node_shares_split key k n cs out).number % 256 ≢ 0
       → (node_shares_split key k n cs out).slice ≡ out
-  pub split-by-value : (key : List ℕ) (k n : ℕ) (cs out : List ℕ) (j : ℕ) → (split_of key k n cs out).answer ≡ Split.Refused j
+  pub split-by-value : (key : List ℕ) (k n : ℕ) (cs out : List ℕ) (r : Row.Refusal) → (split_of key k n cs out).answer ≡ Err r
       → (split_of key k n cs out).slice ≡ out
   pub shares-merge : (k n : ℕ) (numbers shares out : List ℕ) → KeepsSlice out (node_shares_merge k n numbers shares out)
-  pub merge-by-value : (k n : ℕ) (numbers shares out : List ℕ) (j : ℕ) → (merge_of k n numbers shares out).answer ≡ Merge.Refused j
+  pub merge-by-value : (k n : ℕ) (numbers shares out : List ℕ) (r : Row.Refusal) → (merge_of k n numbers shares out).answer ≡ Err r
       → (merge_of k n numbers shares out).slice ≡ out
   pub shares-add : (first second out : List ℕ) → (node_shares_add first second out).number % 256 ≢ 0 → (node_shares_add first second out).slice ≡ out
-  pub add-by-value : (first second out : List ℕ) (j : ℕ) → (add_of first second out).answer ≡ Add.Refused j → (add_of first second out).slice ≡ out
+  pub add-by-value : (first second out : List ℕ) (r : Row.Refusal) → (add_of first second out).answer ≡ Err r → (add_of first second out).slice ≡ out

@@ -6,13 +6,10 @@ use Rattle.state.specs.Time.{cycle, day}
 use Rattle.roster.specs.declared.RosterAnswer.{RosterAnswer}
 use Rattle.roster.specs.declared.RosterAnswer.TheVariants as R
 use Rattle.roster.specs.Calls.{Outcome, import_of, export_of}
-use Rattle.shares.specs.declared.SplitAnswer.{SplitAnswer}
-use Rattle.shares.specs.declared.SplitAnswer.TheVariants as Split
-use Rattle.shares.specs.declared.MergeAnswer.{MergeAnswer}
-use Rattle.shares.specs.declared.MergeAnswer.TheVariants as Merge
-use Rattle.shares.specs.declared.AddAnswer.{AddAnswer}
-use Rattle.shares.specs.declared.AddAnswer.TheVariants as Add
 use Rattle.shares.specs.Calls.{split_of, merge_of, add_of}
+use Rattle.std.specs.Prelude.{Result, Ok, Err}
+use Rattle.refusals.specs.declared.Refusal.{Refusal}
+use Rattle.refusals.specs.Refusals.{number_of}
 use Rattle.node.specs.PageAnswer.{PageAnswer}
 use Rattle.node.specs.PageAnswer as P
 use Rattle.node.specs.Answers.{start_number, deliver_number, query_number, checkpoint_number}
@@ -106,13 +103,13 @@ node_roster_export announcement out = roster_return (export_of announcement out)
 -- ---- partial keys, which ask nothing of a node
 
 -- the answer in the low 8 bits, and above them the number of shares, which is 0 for a refusal
-abbrev pub split_returned : SplitAnswer → ℕ
-split_returned (Split.Given n) = 256 * n
-split_returned (Split.Refused k) = k
+abbrev pub split_returned : Result ℕ Refusal → ℕ
+split_returned (Ok n) = 256 * n
+split_returned (Err r) = number_of r
 
-abbrev pub merge_returned : MergeAnswer → ℕ
-merge_returned Merge.Given = 0
-merge_returned (Merge.Refused k) = k
+abbrev pub merge_returned : Result Unit Refusal → ℕ
+merge_returned (Ok u) = 0
+merge_returned (Err r) = number_of r
 
 unfoldable pub node_shares_split : List ℕ → ℕ → ℕ → List ℕ → List ℕ → Returned
 node_shares_split key k n coefficients out =
@@ -125,9 +122,9 @@ node_shares_merge k n numbers shares out =
     record { number = merge_returned x.answer; slice = x.slice }
 
 -- the number of bytes above the answer, where there are 24 bits: of a longer run the low 24 of its length
-abbrev pub add_returned : AddAnswer → ℕ
-add_returned (Add.Given bytes) = 256 * (bytes % 16777216)
-add_returned (Add.Refused k) = k
+abbrev pub add_returned : Result ℕ Refusal → ℕ
+add_returned (Ok bytes) = 256 * (bytes % 16777216)
+add_returned (Err r) = number_of r
 
 unfoldable pub node_shares_add : List ℕ → List ℕ → List ℕ → Returned
 node_shares_add first second out =

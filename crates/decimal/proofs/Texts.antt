@@ -17,25 +17,16 @@ use Rattle.decimal.proofs.Stored.{decimal-below, length-below}
 abbrev spaces : ℕ → List ℕ
 spaces n = replicate n 32
 
--- the places from index k on of a number that is right-aligned in the most places, as code takes them from the array
-module _ (x from : ℕ) (b : List ℕ) (e : b ≡ spaces from ++ decimal x) (f : from + length (decimal x) ≡ most_digits) where
-  pub all-places : length b ≡ most_digits
-  all-places = let z = simp (length-append, length-replicate) at (ap length e) in omega arith
-
-  pub last-places : (k w : ℕ) → k + w ≡ most_digits → length (decimal x) ≤ w → take (most_digits - k) (drop k b) ≡ aligned w x
-  last-places k w s h =
-      let n : ℕ = w - length (decimal x) in
-      let m : from ≡ k + n = omega arith in
-      let r : spaces from ≡ spaces k ++ spaces n = ap spaces m ∙ sym (replicate-append-replicate k n 32) in
-      let p : b ≡ spaces k ++ aligned w x =
-      e ∙ ap (λ (l : List ℕ). l ++ decimal x) r ∙ append_assoc (spaces k) (spaces n) (decimal x) in
-      let z = all-places in
-      take_all (most_digits - k) (drop k b) (simp length-drop (omega arith))
-      ∙ ap (drop k) p
-      ∙ drop_at (spaces k) (aligned w x) k (length-replicate k 32)
-
-  pub all_digits : take (most_digits - from) (drop from b) ≡ decimal x
-  all_digits = last-places from (length (decimal x)) f (omega arith) ∙ rw sub_self
+-- the places from index k on of a number that stands at the end of the most places, behind spaces
+pub last-places : (x from : ℕ) (b : List ℕ) → b ≡ spaces from ++ decimal x → from + length (decimal x) ≡ most_digits
+    → (k w : ℕ) → k + w ≡ most_digits → length (decimal x) ≤ w → drop k b ≡ aligned w x
+last-places x from b e f k w s h =
+    let n : ℕ = w - length (decimal x) in
+    let m : from ≡ k + n = omega arith in
+    let r : spaces from ≡ spaces k ++ spaces n = ap spaces m ∙ sym (replicate-append-replicate k n 32) in
+    let p : b ≡ spaces k ++ aligned w x =
+    e ∙ ap (λ (l : List ℕ). l ++ decimal x) r ∙ append_assoc (spaces k) (spaces n) (decimal x) in
+    ap (drop k) p ∙ drop_at (spaces k) (aligned w x) k (length-replicate k 32)
 
 -- ---- what is read
 

@@ -17,18 +17,11 @@ pub use reading::{DATE_SIZE, day_in};
 pub const LAST_DAY: u32 = 47481;
 
 // A day of the calendar: month and day are counted from 1.
-#[derive(Clone, Copy)]
+#[derive(Clone, Copy, Debug, PartialEq, Eq)]
 pub struct Date {
     pub year: u16,
     pub month: u8,
     pub day: u8,
-}
-
-// The day of a text, where it is that of a date.
-#[derive(Clone, Copy)]
-pub enum DayRead {
-    Read(u32),
-    Malformed,
 }
 
 // A day of a year, counted from 0, as if February had 30 days, so that one formula serves for all months.
@@ -78,7 +71,7 @@ pub fn date_of(day: u32) -> Date
 fn digit(x: u16) -> u8
     ensures { result ≡ 48 + x % 10 }
 {
-    48 + (x % 10) as u8
+    b'0' + (x % 10) as u8
 }
 
 // The ten characters of a date.
@@ -93,10 +86,10 @@ fn date_text(date: Date) -> [u8; 10]
         digit(year / 10 / 10),
         digit(year / 10),
         digit(year),
-        45,
+        b'-',
         digit(month / 10),
         digit(month),
-        45,
+        b'-',
         digit(day / 10),
         digit(day),
     ]

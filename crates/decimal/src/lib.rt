@@ -8,7 +8,7 @@ ghost use Rattle.binary.specs.Splice.{splice};
 ghost use Rattle.decimal.specs.Decimal.{most_digits, decimal, aligned};
 
 use binary::put_bytes;
-pub use reading::{Number, is_digit, number_at};
+pub use reading::{Number, number_at};
 
 // The digits of the greatest number of 64 bits.
 pub const MOST_DIGITS: usize = 20;

@@ -1,6 +1,5 @@
 // Numbers read from decimal digits.
 ghost use Rattle.std.specs.Prelude.{◌≡◌, ◌+◌, ◌-◌, ◌*◌, ◌^◌, ◌≤◌, ◌<◌, length, drop};
-ghost use Rattle.decimal.specs.Decimal.{is_digit};
 ghost use Rattle.decimal.specs.Code.{digits_in, most_read};
 
 // A number that was read, and where its digits end.
@@ -8,12 +7,6 @@ ghost use Rattle.decimal.specs.Code.{digits_in, most_read};
 pub struct Number {
     pub value: u64,
     pub end: usize,
-}
-
-pub fn is_digit(c: u8) -> bool
-    ensures { result ≡ is_digit c }
-{
-    c.is_ascii_digit()
 }
 
 // The number that goes on with a digit.
@@ -33,7 +26,7 @@ pub fn number_at(text: &[u8], at: usize, most: usize) -> Number
     let mut value: u64 = 0;
     let most_end = at.saturating_add(most).min(text.len());
     for end in at..most_end {
-        if !is_digit(text[end]) {
+        if !text[end].is_ascii_digit() {
             return Number { value, end };
         }
         value = with_digit(value, text[end]);

@@ -6,20 +6,20 @@ use Rattle.decimal.proofs.reading.number_at.Goals as goal
 pub loop-end-init : goal.loop-end-init
 loop-end-init c = scanned-none _ _ _
 
-pub returns-then-not-is_digit-clause-value : goal.returns-then-not-is_digit-clause-value
-returns-then-not-is_digit-clause-value c =
-    scanned-other c.loop-end.invariant (omega arith) (omega arith) (omega arith) (sym c.is_digit.ensures ∙ c.if-not-is_digit.true)
+pub returns-then-not-is_ascii_digit-clause-value : goal.returns-then-not-is_ascii_digit-clause-value
+returns-then-not-is_ascii_digit-clause-value c =
+    scanned-other c.loop-end.invariant (omega arith) (omega arith) (omega arith) (sym c.is_ascii_digit.ensures.value ∙ c.if-not-is_ascii_digit.true)
 
 pub with_digit-value-requires : goal.with_digit-value-requires
 with_digit-value-requires c =
-    let range = digit-range _ (sym c.is_digit.ensures ∙ c.if-not-is_digit.false) in
+    let range = digit-range _ (sym c.is_ascii_digit.ensures.value ∙ c.if-not-is_ascii_digit.false) in
     let short = scanned-short c.loop-end.invariant (omega arith) c.requires in
     (range.0, (range.1, short))
 
 pub loop-end-preserved : goal.loop-end-preserved
 loop-end-preserved c =
     rw c.with_digit-value.ensures
-    (scanned-one c.loop-end.invariant (omega arith) (omega arith) (omega arith) (sym c.is_digit.ensures ∙ c.if-not-is_digit.false))
+    (scanned-one c.loop-end.invariant (omega arith) (omega arith) (omega arith) (sym c.is_ascii_digit.ensures.value ∙ c.if-not-is_ascii_digit.false))
 
 pub returns-clause-value : goal.returns-clause-value
 returns-clause-value c = scanned-all c.loop-end.invariant _ (omega arith) (omega arith) (omega arith)

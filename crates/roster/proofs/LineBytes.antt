@@ -7,6 +7,7 @@ use mathlib.Core.List.{List}
 use mathlib.Core.Option.{none, bind}
 use lib.ListN.{length, take, length-take}
 use borrow.Author.Tests.{le-leb, lt-leb}
+use Rattle.refusals.specs.declared.Refusal.TheVariants.{BadRoster}
 use Rattle.calendar.specs.Text.{last_day}
 use Rattle.state.specs.declared.Login.{Login}
 use Rattle.records.specs.declared.Announcement.{Announcement}
@@ -16,12 +17,6 @@ use Rattle.records.specs.declared.AnnouncementRead.TheVariants.{Read, Malformed}
 use Rattle.records.specs.Announcement.{read_announcement}
 use Rattle.roster.specs.Roster.{line_of}
 use Rattle.roster.specs.Calls.{refused, give, granted, exported, export_of}
-
--- as many bytes as are taken, there are
-pub taken-fits : (n : ℕ) (bytes line : List ℕ) → take n bytes ≡ line → n ≡ length line → n ≤ length bytes
-taken-fits n bytes line e s =
-    let same = s ∙ ap length (sym e) ∙ length-take n bytes in
-    omega (arith, min-le_right n (length bytes))
 
 no_row : (x : Action) → ((r : Login) → x ≡ Grant r → ⊥) → granted x ≡ none
 no_row (Propose x) n = refl
@@ -35,17 +30,17 @@ no_row (Grant r) n = absurd (n r refl)
 no_row (End login) n = refl
 
 module _ (b out : List ℕ) where
-  pub not-read : read_announcement b ≡ Malformed → export_of b out ≡ refused 24 out
+  pub not-read : read_announcement b ≡ Malformed → export_of b out ≡ refused BadRoster out
   unfolding export_of exported bind
   not-read e = rw e
 
   module _ (a : Announcement) (e : read_announcement b ≡ Read a) where
-    pub not-granted : ((r : Login) → a.action ≡ Grant r → ⊥) → export_of b out ≡ refused 24 out
+    pub not-granted : ((r : Login) → a.action ≡ Grant r → ⊥) → export_of b out ≡ refused BadRoster out
     unfolding export_of exported bind
     not-granted n = rw (e, no_row a.action n)
 
     module _ (r : Login) (g : a.action ≡ Grant r) where
-      pub too-late : last_day < r.end.0 → export_of b out ≡ refused 24 out
+      pub too-late : last_day < r.end.0 → export_of b out ≡ refused BadRoster out
       unfolding export_of exported bind
       too-late h = rw (e, g, lt-leb r.end.0 last_day h)
 

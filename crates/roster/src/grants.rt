@@ -1,5 +1,5 @@
 // Grant announcements written.
-ghost use Rattle.std.specs.Prelude.{◌≡◌, ◌++◌, ◌+◌, ◌*◌, ◌≤◌, length, take};
+ghost use Rattle.std.specs.Prelude.{◌≡◌, ◌++◌, ◌+◌, ◌*◌, ◌≤◌, length};
 ghost use Rattle.lists.specs.Table.{fill};
 ghost use Rattle.binary.specs.Number.{to_bytes, overwrite};
 ghost use Rattle.binary.specs.Splice.{splice};
@@ -7,10 +7,8 @@ ghost use Rattle.state.specs.Kinds.{kind_grant};
 ghost use Rattle.records.specs.declared.Action.TheVariants.{Grant};
 ghost use Rattle.records.specs.Layout.{announcement_length, announcement_size, arguments_size};
 ghost use Rattle.records.specs.Announcement.{argument_bytes, announcement_bytes};
-ghost use Rattle.roster.specs.Roster.{most_lines};
 ghost use Rattle.roster.specs.Calls.{grant_of, grants_of, bytes_of};
 
-use crate::MOST_LINES;
 use binary::{put_u16, put_u32};
 use records::layout::{ANNOUNCEMENT_LENGTH, ANNOUNCEMENT_SIZE};
 use state::kinds::GRANT;
@@ -49,18 +47,14 @@ pub fn put_grant(out: &mut [u8], at: usize, cycle: Cycle, day: Day, row: Login)
     put_arguments(out, at + 12, row);
 }
 
-// The grants of the first rows, one behind the other, in cycles that rise by one.
-pub fn put_grants(out: &mut [u8], cycle: Cycle, day: Day, rows: [Login; MOST_LINES], count: usize)
-    requires { (count ≤ most_lines) × (announcement_size * count ≤ length out.old) }
-    ensures { out.new ≡ overwrite (bytes_of (grants_of cycle day (take count rows))) out.old }
+// The grants of rows, one behind the other, in cycles that rise by one.
+pub fn put_grants(out: &mut [u8], cycle: Cycle, day: Day, rows: &[Login])
+    requires { announcement_size * length rows.now ≤ length out.old }
+    ensures { out.new ≡ overwrite (bytes_of (grants_of cycle day rows.now)) out.old }
 {
-    let mut at: usize = 0;
     let mut next = cycle;
-    let mut i: usize = 0;
-    while i < count {
-        put_grant(out, at, next, day, rows[i]);
-        at += ANNOUNCEMENT_SIZE;
+    for (i, row) in rows.iter().enumerate() {
+        put_grant(out, ANNOUNCEMENT_SIZE * i, next, day, *row);
         next = next.next();
-        i += 1;
     }
 }

@@ -2,11 +2,11 @@ use mathlib.Core.Path.{sym}
 use Rattle.roster.proofs.Found.{char-here, char-other, char-end}
 use Rattle.roster.proofs.characters.behind.Goals as goal
 
-pub returns-then-text-at : goal.returns-then-text-at
-returns-then-text-at c = sym (char-here _ _ _ c.if-at-text.true c.if-text-at.true)
+pub returns-in_err-first : goal.returns-in_err-first
+returns-in_err-first c = rw c.from_residual.ensures (sym (char-end _ _ c.in_err-first.ensures.cases))
 
-pub returns-then-at-text : goal.returns-then-at-text
-returns-then-at-text c = sym (char-other _ _ _ c.if-at-text.true c.if-text-at.false)
+pub returns-then-first-c : goal.returns-then-first-c
+returns-then-first-c c = sym (char-here c.in_ok-first.ensures.cases.0 _ c.if-first-c.true)
 
-pub returns : goal.returns
-returns c = sym (char-end _ _ c.if-at-text.false _)
+pub returns-else-first-c : goal.returns-else-first-c
+returns-else-first-c c = sym (char-other c.in_ok-first.ensures.cases.0 _ c.if-first-c.false)

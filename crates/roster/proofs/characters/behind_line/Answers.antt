@@ -1,18 +1,21 @@
+use native.Mathlib.Omega.{arith}
+use mathlib.Core.Path.{sym}
 use mathlib.Core.Option.{bind}
-use Rattle.roster.proofs.Found.{drop-end, not_end}
+use borrow.Author.Tests.{eqb-true, eqb-false}
+use Rattle.roster.proofs.Found.{not_end, is-nil}
 use Rattle.roster.proofs.characters.behind_line.Goals as goal
 
-pub returns-then-text-at : goal.returns-then-text-at
-returns-then-text-at c = let a = c.args in rw (drop-end a.text.now a.at c.if-text-at.true)
+pub returns-then-is_empty : goal.returns-then-is_empty
+returns-then-is_empty c = rw (is-nil c.args.text.now (eqb-true _ _ (sym c.if-is_empty.ensures)))
 
-pub returns-in_default : goal.returns-in_default
+pub returns-in_err-behind : goal.returns-in_err-behind
 unfolding bind
-returns-in_default c =
-    let a = c.args in
-    rw (not_end a.text.now a.at 0 c.if-text-at.false, ← c.behind.ensures, c.in_default.is)
+returns-in_err-behind c =
+    let some_left = eqb-false _ _ (sym c.if-is_empty.ensures) in
+    rw (c.from_residual.ensures, not_end c.args.text.now (omega arith), ← c.in_err-behind.ensures)
 
 pub returns : goal.returns
 unfolding bind
 returns c =
-    let a = c.args in
-    rw (not_end a.text.now a.at 0 c.if-text-at.false, ← c.behind.ensures, c.in-At.is) c.behind-2.ensures
+    let some_left = eqb-false _ _ (sym c.if-is_empty.ensures) in
+    rw (not_end c.args.text.now (omega arith), ← c.in_ok-behind.ensures) c.behind-2.ensures

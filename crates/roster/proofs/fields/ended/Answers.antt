@@ -1,16 +1,15 @@
 use mathlib.Core.Option.{bind}
 use Rattle.roster.proofs.fields.ended.Goals as goal
 
-pub returns-in_default : goal.returns-in_default
+pub returns-in_err-rest : goal.returns-in_err-rest
 unfolding bind
-returns-in_default c = rw (← c.behind_quote.ensures, c.in_default.is)
+returns-in_err-rest c = rw (c.from_residual.ensures, ← c.in_err-rest.ensures)
 
-pub returns-in_default-behind_separator : goal.returns-in_default-behind_separator
+pub returns-in_err-behind_separator : goal.returns-in_err-behind_separator
 unfolding bind
-returns-in_default-behind_separator c =
-    rw (← c.behind_quote.ensures, c.in-At.is, ← c.behind_separator.ensures, c.in_default-behind_separator.is)
+returns-in_err-behind_separator c =
+    rw (c.from_residual-in_err-behind_separator.ensures, ← c.in_ok-rest.ensures, ← c.in_err-behind_separator.ensures)
 
 pub returns : goal.returns
 unfolding bind
-returns c =
-    rw (← c.behind_quote.ensures, c.in-At.is, ← c.behind_separator.ensures, c.in-At-behind_separator.is)
+returns c = rw (← c.in_ok-rest.ensures, ← c.in_ok-behind_separator.ensures)

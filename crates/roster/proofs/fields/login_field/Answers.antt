@@ -1,30 +1,26 @@
 use mathlib.Core.Bool.{false}
 use mathlib.Core.Option.{bind}
-use lib.ListN.{drop}
 use Rattle.roster.proofs.Separated.{separated-found}
 use Rattle.roster.proofs.Finding.{login-finds, separates}
 use Rattle.roster.proofs.fields.login_field.Goals as goal
 
-pub returns-in_default : goal.returns-in_default
+pub returns-in_err-login : goal.returns-in_err-login
 unfolding bind
-returns-in_default c =
-    let t = drop c.args.at c.args.text.now in
+returns-in_err-login c =
     rw (
-      ← separated-found login-finds (separates false) t,
-      ← c.open-opening.ensures.quoted_value,
-      ← c.open-opening.ensures.text_value,
-      ← c.login_at.ensures,
-      c.in_default.is,
+      c.from_residual.ensures,
+      ← separated-found login-finds (separates false) c.args.text.now,
+      ← c.open-quoted.ensures.quoted_value,
+      ← c.open-quoted.ensures.text_value,
+      ← c.in_err-login.ensures,
     )
 
 pub returns : goal.returns
 unfolding bind
 returns c =
-    let t = drop c.args.at c.args.text.now in
     rw (
-      ← separated-found login-finds (separates false) t,
-      ← c.open-opening.ensures.quoted_value,
-      ← c.open-opening.ensures.text_value,
-      ← c.login_at.ensures,
-      c.in-Value.is,
+      ← separated-found login-finds (separates false) c.args.text.now,
+      ← c.open-quoted.ensures.quoted_value,
+      ← c.open-quoted.ensures.text_value,
+      ← c.in_ok-login.ensures,
     ) c.ended.ensures

@@ -1,30 +1,26 @@
 use mathlib.Core.Bool.{true}
 use mathlib.Core.Option.{bind}
-use lib.ListN.{drop}
 use Rattle.roster.proofs.Separated.{separated-found}
 use Rattle.roster.proofs.Finding.{rights-finds, separates}
 use Rattle.roster.proofs.fields.rights_field.Goals as goal
 
-pub returns-in_default : goal.returns-in_default
+pub returns-in_err-rights : goal.returns-in_err-rights
 unfolding bind
-returns-in_default c =
-    let t = drop c.args.at c.args.text.now in
+returns-in_err-rights c =
     rw (
-      ← separated-found rights-finds (separates true) t,
-      ← c.open-opening.ensures.quoted_value,
-      ← c.open-opening.ensures.text_value,
-      ← c.rights_at.ensures,
-      c.in_default.is,
+      c.from_residual.ensures,
+      ← separated-found rights-finds (separates true) c.args.text.now,
+      ← c.open-quoted.ensures.quoted_value,
+      ← c.open-quoted.ensures.text_value,
+      ← c.in_err-rights.ensures,
     )
 
 pub returns : goal.returns
 unfolding bind
 returns c =
-    let t = drop c.args.at c.args.text.now in
     rw (
-      ← separated-found rights-finds (separates true) t,
-      ← c.open-opening.ensures.quoted_value,
-      ← c.open-opening.ensures.text_value,
-      ← c.rights_at.ensures,
-      c.in-Value.is,
+      ← separated-found rights-finds (separates true) c.args.text.now,
+      ← c.open-quoted.ensures.quoted_value,
+      ← c.open-quoted.ensures.text_value,
+      ← c.in_ok-rights.ensures,
     ) c.ended.ensures

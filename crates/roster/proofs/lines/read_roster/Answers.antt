@@ -1,53 +1,27 @@
-use Rattle.roster.specs.Code.{line_found}
 use native.Mathlib.Omega.{arith}
-use mathlib.Core.Path.{refl, sym, ap, ◌∙◌}
-use Rattle.roster.proofs.RowsRead.{rows_none, rows-over, rows-bad, rows-one, rows_all, rows-counted, no_rows}
+use mathlib.Core.Path.{sym}
+use borrow.Author.Tests.{eqb-true, eqb-false}
+use Rattle.roster.proofs.RowsRead.{rows_none, rows-over, rows-bad, rows-one, rows_all}
 use Rattle.roster.proofs.lines.read_roster.Goals as goal
 
-pub loop-at-init : goal.loop-at-init
-loop-at-init c = rows_none _ _ refl
+pub loop-rest-init : goal.loop-rest-init
+loop-rest-init c = rows_none _ _ c.new-rows.ensures
 
-pub returns-then-count-eq-MOST_LINES : goal.returns-then-count-eq-MOST_LINES
-returns-then-count-eq-MOST_LINES c =
-    record {
-      result_value = c.malformed.ensures.result_value ∙ sym (rows-over c.loop-at.invariant c.loop-at-test.true c.if-count-eq-MOST_LINES.true);
-      count_le_most_lines = no_rows c.malformed.result c.malformed.ensures.count_value;
-    }
+pub returns-in_err-row : goal.returns-in_err-row
+returns-in_err-row c =
+    let left = eqb-false _ _ (sym c.loop-rest-test.ensures) in
+    rw c.from_residual.ensures (sym (rows-bad c.loop-rest.invariant (omega arith) (sym c.in_err-row.ensures)))
 
-pub returns-in_default : goal.returns-in_default
-returns-in_default c =
-    let bad = sym c.line_at.ensures ∙ ap (line_found _) c.in_default.is in
-    record {
-      result_value = c.malformed-in_default.ensures.result_value ∙ sym (rows-bad c.loop-at.invariant c.loop-at-test.true c.if-count-eq-MOST_LINES.false bad);
-      count_le_most_lines = no_rows c.malformed-in_default.result c.malformed-in_default.ensures.count_value;
-    }
+pub returns-in_err-push : goal.returns-in_err-push
+returns-in_err-push c =
+    let left = eqb-false _ _ (sym c.loop-rest-test.ensures) in
+    rw c.from_residual-in_err-push.ensures (sym (rows-over c.loop-rest.invariant (omega arith) c.in_err-push.ensures.full))
 
-pub offset_bounds-rows-count : goal.offset_bounds-rows-count
-offset_bounds-rows-count c =
-    let few = c.loop-at.invariant.few in
-    omega (arith, few, c.if-count-eq-MOST_LINES.false)
-
-pub bounds-rows-count : goal.bounds-rows-count
-bounds-rows-count c =
-    let few = c.loop-at.invariant.few in
-    omega (arith, few, c.if-count-eq-MOST_LINES.false)
-
-pub overflow_add-count : goal.overflow_add-count
-overflow_add-count c =
-    let few = c.loop-at.invariant.few in
-    omega (arith, few, c.if-count-eq-MOST_LINES.false)
-
-pub loop-at-smaller : goal.loop-at-smaller
-loop-at-smaller c =
-    let few = c.loop-at.invariant.few in
-    omega (arith, few, c.if-count-eq-MOST_LINES.false)
-
-pub loop-at-preserved : goal.loop-at-preserved
-loop-at-preserved c =
-    let line = sym c.line_at.ensures ∙ ap (line_found _) c.in-Row.is in
-    rows-one c.loop-at.invariant c.loop-at-test.true c.if-count-eq-MOST_LINES.false _ _ line
+pub loop-rest-preserved : goal.loop-rest-preserved
+loop-rest-preserved c =
+    let left = eqb-false _ _ (sym c.loop-rest-test.ensures) in
+    let pushed = c.in_ok-push.ensures in
+    rw pushed.room (rows-one c.loop-rest.invariant (omega arith) (rw pushed.room at pushed.few) _ (sym c.in_ok-row.ensures))
 
 pub returns : goal.returns
-returns c =
-    let l = c.loop-at.invariant in
-    record { result_value = sym (rows_all l c.loop-at-test.false); count_le_most_lines = (l.few, rows-counted l) }
+returns c = sym (rows_all c.loop-rest.invariant (eqb-true _ _ (sym c.loop-rest-test.ensures)))

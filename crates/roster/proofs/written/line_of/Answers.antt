@@ -9,9 +9,4 @@ pub returns : goal.returns
 unfolding overwrite
 returns c =
     let put = c.put_line-length in
-    let line = line_of c.args.row in
-    record {
-      bytes_value = ap (take put.result) put.ensures.out_after ∙ take_at line _ put.result (sym put.ensures.value);
-      length_value = put.ensures.value;
-      length_bound = put.ensures.upper_bound;
-    }
+    ap (take put.result) put.ensures.out_after ∙ take_at (line_of c.args.row) _ put.result (sym put.ensures.value)

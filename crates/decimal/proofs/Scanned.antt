@@ -1,12 +1,12 @@
 -- Digits read one by one from a text.
 use Prim.Native.Nat.{ℕ, zero, suc, ◌+◌, ◌-◌, ◌*◌, ◌^◌, ◌≤◌, ◌<◌, min}
 use native.Mathlib.Numerals.{add-one}
-use native.Mathlib.Nat.{pow-suc, pow-le-pow_right, sub_self}
+use native.Mathlib.Nat.{pow-suc, pow-le-pow_right}
 use native.Mathlib.Omega.{arith}
 use mathlib.Core.Path.{◌≡◌, refl, sym, ap, ◌∙◌}
-use mathlib.Core.Bool.{Bool, true, false, cond, ◌&&◌, and-eq-true_iff}
+use mathlib.Core.Bool.{Bool, true, false, cond, and-eq-true_iff}
 use mathlib.Core.List.{List, [], ◌∷◌, ◌++◌}
-use lib.Dec.{leb, ltb}
+use lib.Dec.{leb}
 use lib.ListN.{length, get_or, drop, drop_of_length-le}
 use lib.Seq.{drop-cons}
 use borrow.Author.Tests.{leb-true, leb-false}
@@ -18,9 +18,6 @@ use Rattle.decimal.specs.Code.{most_read, digits_in}
 pub record Scanned (text : List ℕ) (at most value i : ℕ) : Type 0 where
   pub below : value < 10 ^ (i - at)
   pub same : digits_in (at + most - i) value (drop i text) ≡ digits_in most 0 (drop at text)
-
-pub scanned-none : (text : List ℕ) (at most : ℕ) → Scanned text at most 0 at
-scanned-none text at most = let n : at + most - at ≡ most = omega arith in record { below = rw sub_self (omega arith); same = rw n refl }
 
 -- a digit more has a power more
 digit-below : (v d n : ℕ) → v < 10 ^ n → d < 10 → 10 * v + d < 10 ^ suc n

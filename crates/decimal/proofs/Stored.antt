@@ -3,11 +3,12 @@ use Prim.Native.Nat.{ℕ, zero, suc, ◌+◌, ◌-◌, ◌*◌, ◌/◌, ◌%◌
 use native.Mathlib.Omega.{arith}
 use native.Mathlib.Nat.{suc-add, pow-suc}
 use mathlib.Core.Path.{◌≡◌, refl, sym, ap, ◌∙◌}
-use mathlib.Core.Bool.{true, false, cond, ◌&&◌, and-eq-true_iff}
-use mathlib.Core.List.{List, [], ◌∷◌, ◌++◌, append_assoc, append-nil}
-use lib.Dec.{ltb, leb}
-use lib.ListN.{length, set, replicate, length-set, length-append, length-replicate}
-use borrow.Author.Tests.{ltb-true, ltb-false, leb-true, lt-ltb, le-ltb, le-leb}
+use mathlib.Core.Bool.{cond}
+use mathlib.Core.List.{List, [], ◌∷◌, ◌++◌, append_assoc}
+use lib.Dec.{ltb}
+use lib.ListN.{length, drop, set, replicate, length-append, length-replicate}
+use lib.Seq.{drop_at}
+use borrow.Author.Tests.{lt-ltb, le-ltb}
 use Rattle.lists.proofs.Tests.{cond_cases}
 use Rattle.decimal.specs.Decimal.{digits, most_digits, decimal}
 use Rattle.decimal.specs.Claims.{NoDigitLeftOut}
@@ -25,17 +26,18 @@ next-digit k x t e = rw (le-ltb _ _ e) (append_assoc (digits k (x / 10)) ((48 + 
 -- the digits of x from index `from` up to the end stand in l after spaces, and those of `rest` are still to be stored in front of them
 pub record Stored (x from rest : ℕ) (l : List ℕ) : Type 0 where
   pub stored : List ℕ
-  pub size : from + length stored ≡ most_digits
   pub spaces : l ≡ replicate from 32 ++ stored
   pub joined : digits from rest ++ stored ≡ decimal x
 
-pub stored-none : (x : ℕ) → Stored x most_digits x (replicate most_digits 32)
-stored-none x = record { stored = []; size = refl; spaces = refl; joined = append-nil (decimal x) }
-
--- the digits of x, with spaces in front
+-- the digits of x, behind spaces
 pub record AreDigits (x from : ℕ) (l : List ℕ) : Type 0 where
-  pub bytes : l ≡ replicate from 32 ++ decimal x
-  pub size : from + length (decimal x) ≡ most_digits
+  pub text : drop from l ≡ decimal x
+  pub spaces : l ≡ replicate from 32 ++ drop from l
+
+are-digits : (x from : ℕ) (l : List ℕ) → l ≡ replicate from 32 ++ decimal x → AreDigits x from l
+are-digits x from l e =
+    let text : drop from l ≡ decimal x = ap (drop from) e ∙ drop_at (replicate from 32) (decimal x) from (length-replicate from 32) in
+    record { text = text; spaces = rw text e }
 
 module _ (x rest : ℕ) (l : List ℕ) where
   -- the loop goes on
@@ -45,7 +47,6 @@ module _ (x rest : ℕ) (l : List ℕ) where
       let e : suc k - 1 ≡ k = omega arith in
       rw e (record {
         stored = (48 + rest % 10) ∷ h.stored;
-        size = omega (arith, h.size);
         spaces = rw (h.spaces, one-stored k (48 + rest % 10) h.stored);
         joined = sym (next-digit k rest h.stored t) ∙ h.joined;
       })
@@ -58,13 +59,13 @@ module _ (x rest : ℕ) (l : List ℕ) where
       let e : suc k - 1 ≡ k = omega arith in
       let one : 48 + rest % 10 ≡ 48 + rest = omega arith in
       let d : (48 + rest) ∷ h.stored ≡ decimal x = rw (lt-ltb rest 10 t) at h.joined in
-      rw (e, one) (record { bytes = rw (h.spaces, one-stored k (48 + rest) h.stored, d); size = rw (← d) (omega (arith, h.size)) })
+      rw (e, one) (are-digits x k _ (rw (h.spaces, one-stored k (48 + rest) h.stored, d)))
 
   -- all places are taken
   pub stored-all : (from : ℕ) → Stored x from rest l → from ≤ 0 → AreDigits x 0 l
   unfolding digits
   stored-all (suc k) h z = absurd (omega arith)
-  stored-all zero h z = record { bytes = h.spaces ∙ h.joined; size = rw (← h.joined) h.size }
+  stored-all zero h z = are-digits x 0 l (h.spaces ∙ h.joined)
 
 -- ---- how many
 

@@ -3,36 +3,45 @@
 
 mod reading;
 
-ghost use Rattle.std.specs.Prelude.{◌≡◌, ◌++◌, ◌+◌, ◌-◌, ◌^◌, ◌≤◌, ◌<◌, length, drop, replicate};
+ghost use Rattle.std.specs.Prelude.{◌≡◌, ℕ, List, ◌++◌, ◌+◌, ◌-◌, ◌^◌, ◌≤◌, ◌<◌, length, drop, replicate};
 ghost use Rattle.binary.specs.Splice.{splice};
 ghost use Rattle.decimal.specs.Decimal.{most_digits, decimal, aligned};
 
 use binary::put_bytes;
 pub use reading::{Number, number_at};
+use std::marker::Model;
 
 // The digits of the greatest number of 64 bits.
 pub const MOST_DIGITS: usize = 20;
 
-// Decimal digits, from an index up to the end, with spaces in front. An array: memory is fixed, and there is no heap.
-#[derive(Clone, Copy)]
+// Decimal digits, from an index up to the end, with spaces in front. An array with an index beside it: memory is fixed, and there is no heap.
+#[derive(Drop)]
 struct Digits {
     bytes: [u8; MOST_DIGITS],
     from: usize,
-    ghost within: { from ≤ most_digits },
+}
+
+impl Model for Digits {
+    ghost Value = { List ℕ };
+
+    ghost view = { λ d. drop d.from d.bytes };
+
+    ghost invariant = { λ d. (d.from ≤ most_digits) × (d.bytes ≡ replicate d.from 32 ++ drop d.from d.bytes) };
 }
 
 impl Digits {
-    // The digits alone.
     fn text(&self) -> &[u8]
-        ensures { result.now ≡ drop self.now.from self.now.bytes }
+        ensures value { result.now ≡ self.now }
+        ensures upper_bound { length result.now ≤ most_digits }
     {
         &self.bytes[self.from..]
     }
 
-    // The last places, as many as told: the digits, with spaces in front.
-    fn places(&self, width: usize) -> &[u8]
-        requires { width ≤ most_digits }
-        ensures { result.now ≡ drop (most_digits - width) self.now.bytes }
+    // The digits with spaces in front, in a width.
+    fn aligned(&self, width: usize) -> &[u8]
+        requires { (length self.now ≤ width) × (width ≤ most_digits) }
+        ensures value { result.now ≡ replicate (width - length self.now) 32 ++ self.now }
+        ensures size { length result.now ≡ width }
     {
         &self.bytes[MOST_DIGITS - width..]
     }
@@ -40,7 +49,7 @@ impl Digits {
 
 // The digits of a number, stored from the last one on.
 fn digits_of(x: u64) -> Digits
-    ensures { (result.bytes ≡ replicate result.from 32 ++ decimal x) × (result.from + length (decimal x) ≡ most_digits) }
+    ensures { result ≡ decimal x }
 {
     let mut bytes = [b' '; MOST_DIGITS];
     let mut rest = x;
@@ -68,5 +77,5 @@ pub fn put_aligned(out: &mut [u8], at: usize, width: usize, x: u64)
     requires { (1 ≤ width) × ((width ≤ most_digits) × ((x < 10 ^ width) × (at + width ≤ length out.old))) }
     ensures { out.new ≡ splice out.old at (aligned width x) }
 {
-    put_bytes(out, at, digits_of(x).places(width));
+    put_bytes(out, at, digits_of(x).aligned(width));
 }

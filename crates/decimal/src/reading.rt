@@ -31,5 +31,8 @@ pub fn number_at(text: &[u8], at: usize, most: usize) -> Number
         }
         value = with_digit(value, text[end]);
     }
-    Number { value, end: most_end }
+    Number {
+        value,
+        end: most_end,
+    }
 }

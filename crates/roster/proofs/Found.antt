@@ -30,14 +30,6 @@ pub not_end : (text : List ℕ) → 0 < length text → is_end text ≡ false
 not_end [] h = absurd (omega arith)
 not_end (x ∷ xs) h = refl
 
--- without the character that is looked for, the text does not begin with it
-pub not-begun : (text : List ℕ) (c : ℕ) → char c text ≡ none → begins c text ≡ false
-not-begun text c e = go (begins c text) e
-  where
-    go : (b : Bool) → cond b (some (drop 1 text)) none ≡ none → b ≡ false
-    go true p = clash (cc)
-    go false p = refl
-
 pub is-nil : (text : List ℕ) → length text ≡ 0 → text ≡ []
 is-nil [] e = refl
 is-nil (x ∷ xs) e = absurd (omega arith)

@@ -26,29 +26,6 @@ capital-range c e = let b = (and-eq-true_iff (leb 65 c) (leb c 70)).0 e in (leb-
 pub small-range : (c : ℕ) → is_small c ≡ true → (97 ≤ c) × (c ≤ 102)
 small-range c e = let b = (and-eq-true_iff (leb 97 c) (leb c 102)).0 e in (leb-true _ _ b.0, leb-true _ _ b.1)
 
--- ---- hexadecimal digits
-
--- what the library calls a digit's value, for each byte
-abbrev same_digit : ℕ → Bool
-same_digit c = eqb (min (digit_value c) 16) (cond (is_hex_digit c) (hex_value c) 16)
-
-same-digits : all_below same_digit 256 ≡ true
-unfolding all_below
-same-digits = refl
-
-same-digit : (c : ℕ) → c < 256 → min (digit_value c) 16 ≡ cond (is_hex_digit c) (hex_value c) 16
-same-digit c h = eqb-true _ _ (passes-below same_digit 256 same-digits c h)
-
-pub hex-read : (c : ℕ) → c < 256 → (o : Rust.Option ℕ) → Rust.SomeIff o (digit_value c < 16) (digit_value c) → value_found o ≡ hex_of c
-hex-read c h o s = go (is_hex_digit c) refl o s (same-digit c h)
-  where
-    go : (b : Bool) → is_hex_digit c ≡ b → (o : Rust.Option ℕ) → Rust.SomeIff o (digit_value c < 16) (digit_value c)
-        → min (digit_value c) 16 ≡ cond b (hex_value c) 16 → value_found o ≡ cond b (some (hex_value c)) none
-    go true e (Rust.Some x) s m = ap some (omega (arith, s.0, s.1))
-    go false e (Rust.Some x) s m = absurd (omega (arith, s.0))
-    go true e Rust.None s m = absurd (s (omega (arith, hex-value c e)))
-    go false e Rust.None s m = refl
-
 -- ---- rights
 
 -- a number that is not zero

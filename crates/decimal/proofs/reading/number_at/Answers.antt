@@ -1,10 +1,7 @@
 use native.Mathlib.Omega.{arith}
 use mathlib.Core.Path.{sym, ◌∙◌}
-use Rattle.decimal.proofs.Scanned.{scanned-none, scanned-short, scanned-one, scanned-other, scanned-all, digit-range}
+use Rattle.decimal.proofs.Scanned.{scanned-short, scanned-one, scanned-other, scanned-all, digit-range}
 use Rattle.decimal.proofs.reading.number_at.Goals as goal
-
-pub loop-end-init : goal.loop-end-init
-loop-end-init c = scanned-none _ _ _
 
 pub returns-then-not-is_ascii_digit-clause-value : goal.returns-then-not-is_ascii_digit-clause-value
 returns-then-not-is_ascii_digit-clause-value c =

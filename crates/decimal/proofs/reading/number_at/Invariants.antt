@@ -1,4 +1,3 @@
-use Prim.Native.Nat.{◌+◌, ◌-◌}
 use Rattle.decimal.proofs.Scanned.{Scanned}
 use Rattle.decimal.proofs.reading.number_at.Given as goal
 

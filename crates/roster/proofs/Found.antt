@@ -1,15 +1,13 @@
 -- What stands at the front of a text.
 use Prim.Native.Nat.{ℕ, ◌<◌}
 use native.Mathlib.Omega.{arith}
-use mathlib.Core.Path.{◌≡◌, refl, ◌∙◌}
+use mathlib.Core.Path.{◌≡◌, refl}
 use mathlib.Core.Logic.{◌≢◌}
-use mathlib.Core.Bool.{Bool, true, false, cond}
+use mathlib.Core.Bool.{false}
 use mathlib.Core.List.{List, [], ◌∷◌}
 use mathlib.Core.Option.{none, some}
 use borrow.Author.Tests.{eq-eqb, ne_eqb}
-use lib.Dec.{eqb}
-use lib.ListN.{length, drop}
-use Rattle.lists.proofs.Tests.{clash}
+use lib.ListN.{length}
 use Rattle.roster.specs.Csv.{begins, char, is_end}
 
 module _ {text rest : List ℕ} {x : ℕ} (e : text ≡ x ∷ rest) (c : ℕ) where

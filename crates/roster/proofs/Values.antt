@@ -1,24 +1,21 @@
 -- The values that the code computes from characters.
-use Prim.Native.Nat.{ℕ, zero, suc, ◌+◌, ◌-◌, ◌*◌, ◌≤◌, ◌<◌, min}
+use Prim.Native.Nat.{ℕ, zero, suc, ◌+◌, ◌*◌, ◌≤◌, ◌<◌}
 use native.Mathlib.Omega.{arith}
-use mathlib.Core.Path.{◌≡◌, refl, sym, ap, ◌∙◌}
-use mathlib.Core.Bool.{Bool, true, false, cond, ◌&&◌, and-eq-true_iff, and-true, and-false}
+use mathlib.Core.Path.{◌≡◌, refl}
+use mathlib.Core.Bool.{Bool, true, false, cond, and-eq-true_iff, and-false}
 use mathlib.Core.List.{List, [], ◌∷◌}
 use mathlib.Core.Option.{Option, some, none, bind, bind-eq-some_iff}
-use lib.Dec.{ltb, leb, eqb}
-use lib.ListN.{length, get_or, take, drop, length-take}
-use borrow.Author.Tests.{leb-true, le-leb, eqb-true, ne_eqb}
-use Rattle.std.specs.Char.{digit_value}
-use Rattle.std.specs.Prelude as Rust
+use lib.Dec.{leb, eqb}
+use lib.ListN.{length, get_or, take, length-take}
+use borrow.Author.Tests.{leb-true, le-leb, ne_eqb}
 use Rattle.lists.specs.Fold.{all}
-use Rattle.lists.proofs.Options.{same-options, chosen}
-use Rattle.lists.proofs.Tests.{clash, all_below, passes-below}
+use Rattle.lists.proofs.Options.{same-options}
+use Rattle.lists.proofs.Tests.{clash}
 use Rattle.calendar.specs.Text.{day_in}
 use Rattle.calendar.proofs.Characters.{elements, by-elements}
 use Rattle.calendar.proofs.Texts.{day-length}
-use Rattle.roster.specs.Fields.{is_login_number, is_capital, is_small, is_hex_digit, hex_value, hex_from, rights_digits, rights_in}
-use Rattle.roster.proofs.FieldTexts.{hex-value}
-use Rattle.roster.specs.Code.{value_found, hex_of, date_size, value_at}
+use Rattle.roster.specs.Fields.{is_login_number, is_capital, is_small, is_hex_digit, hex_from, rights_digits, rights_in}
+use Rattle.roster.specs.Code.{hex_of, date_size, value_at}
 
 pub capital-range : (c : ℕ) → is_capital c ≡ true → (65 ≤ c) × (c ≤ 70)
 capital-range c e = let b = (and-eq-true_iff (leb 65 c) (leb c 70)).0 e in (leb-true _ _ b.0, leb-true _ _ b.1)

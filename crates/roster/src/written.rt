@@ -45,7 +45,11 @@ fn hex_digit(x: u16) -> u8
     ensures { result ≡ hex_digit (x % 16) }
 {
     let digit = (x % 16) as u8;
-    if digit < 10 { b'0' + digit } else { b'A' + (digit - 10) }
+    if digit < 10 {
+        b'0' + digit
+    } else {
+        b'A' + (digit - 10)
+    }
 }
 
 // What stands behind the date: a comma, the rights and the line's end.

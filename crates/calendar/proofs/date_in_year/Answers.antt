@@ -1,9 +1,6 @@
 use native.Mathlib.Omega.{arith}
-use Rattle.calendar.proofs.Formulas.{year-at-most, month-found, date-in-year}
+use Rattle.calendar.proofs.Formulas.{month-found, date-in-year}
 use Rattle.calendar.proofs.date_in_year.Goals as goal
-
-pub stretched-at-requires : goal.stretched-at-requires
-stretched-at-requires c = year-at-most c.args.leap _ c.requires.1.1
 
 pub overflow_mul-month : goal.overflow_mul-month
 overflow_mul-month c = let t = month-found _ _ _ c.stretched-at.ensures c.requires.1.1 in omega arith

@@ -1,12 +1,9 @@
 use native.Mathlib.Omega.{arith}
 use mathlib.Core.Path.{sym}
 use mathlib.Core.Option.{bind}
-use borrow.Author.Tests.{eqb-true, eqb-false}
-use Rattle.roster.proofs.Found.{not_end, is-nil}
+use borrow.Author.Tests.{eqb-false}
+use Rattle.roster.proofs.Found.{not_end}
 use Rattle.roster.proofs.characters.behind_line.Goals as goal
-
-pub returns-then-is_empty : goal.returns-then-is_empty
-returns-then-is_empty c = rw (is-nil c.args.text.now (eqb-true _ _ (sym c.if-is_empty.ensures)))
 
 pub returns-in_err-behind : goal.returns-in_err-behind
 unfolding bind

@@ -1,4 +1,3 @@
-use native.Mathlib.Omega.{arith}
 use Rattle.state.specs.Rows.{no_login}
 use Rattle.roster.proofs.GrantBytes.{written_none, written_one, written_all}
 use Rattle.roster.proofs.grants.put_grants.Goals as goal

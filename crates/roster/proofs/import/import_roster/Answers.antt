@@ -1,6 +1,6 @@
 use mathlib.Core.Path.{◌≡◌, refl, sym}
 use borrow.Author.Rules.{rules}
-use Rattle.std.specs.Prelude.{Ok, Err}
+use Rattle.std.specs.Prelude.{Err}
 use Rattle.refusals.specs.declared.Refusal.TheVariants.{BadRoster}
 use Rattle.roster.proofs.ImportCases.{not-read, out-of-cycles, too_short, grants-given}
 use Rattle.roster.proofs.import.import_roster.Goals as goal

@@ -11,7 +11,7 @@ use borrow.Author.Tests.{eqb-true, eqb-false}
 use Rattle.state.specs.declared.Login.{Login}
 use Rattle.roster.specs.Roster.{most_lines, roster_in}
 use Rattle.roster.specs.Code.{line_in}
-use Rattle.roster.proofs.Found.{not_end, is-nil}
+use Rattle.roster.proofs.Found.{not_end, is_nil}
 use Rattle.roster.proofs.Turns.{rows_of, turn_of, rows-turn, rows_end, rows-full}
 
 -- rows, and those that follow them
@@ -70,4 +70,4 @@ module _ {text : List ℕ} {rows : List Login} {rest : List ℕ} (s : RowsRead t
 
   pub rows_all : length rest ≡ 0 → roster_in text ≡ some rows
   unfolding bind
-  rows_all h = s.same ∙ rw (is-nil rest h, rows_end (most_lines - length rows), append-nil)
+  rows_all h = s.same ∙ rw (is_nil rest h, rows_end (most_lines - length rows), append-nil)

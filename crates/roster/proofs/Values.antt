@@ -49,9 +49,9 @@ by_digits t =
     bind (hex_of (get_or t 2 0)) (λ c.
     bind (hex_of (get_or t 3 0)) (λ d. unless_zero (four_digits a b c d)))))
 
-pub rights-of : (t : List ℕ) → length t ≡ 4 → rights_in t ≡ by_digits t
+pub rights_of : (t : List ℕ) → length t ≡ 4 → rights_in t ≡ by_digits t
 unfolding rights_in hex_from bind all
-rights-of t h = rw (four-of t h) (go (get_or t 0 0) (get_or t 1 0) (get_or t 2 0) (get_or t 3 0) _ _ _ _ refl refl refl refl)
+rights_of t h = rw (four-of t h) (go (get_or t 0 0) (get_or t 1 0) (get_or t 2 0) (get_or t 3 0) _ _ _ _ refl refl refl refl)
   where
     go : (a b c d : ℕ) (p q r s : Bool) → is_hex_digit a ≡ p → is_hex_digit b ≡ q → is_hex_digit c ≡ r → is_hex_digit d ≡ s
         → rights_in (a ∷ b ∷ c ∷ d ∷ []) ≡ by_digits (a ∷ b ∷ c ∷ d ∷ [])
@@ -72,9 +72,9 @@ end_short text h =
     (λ p e. absurd (let a = (bind-eq-some_iff (day_in (take 10 text)) _).0 e in let few = short-part text 10 h in omega (arith, few, day-length _ a.0 a.1)))
     (λ p e. clash (cc))
 
-pub rights-short : (text : List ℕ) → length text < 4 → value_at rights_digits rights_in text ≡ none
+pub rights_short : (text : List ℕ) → length text < 4 → value_at rights_digits rights_in text ≡ none
 unfolding rights_in bind
-rights-short text h =
+rights_short text h =
     let few = short-part text 4 h in
     let wrong : eqb (length (take 4 text)) 4 ≡ false = ne_eqb (length (take 4 text)) 4 (λ e. absurd (omega (arith, few, e))) in
     rw (wrong, and-false (all is_hex_digit (take 4 text)))

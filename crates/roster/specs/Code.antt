@@ -62,7 +62,7 @@ line_in text =
 -- ---- a value where it stands
 
 -- a login number of up to ten digits
-abbrev pub login_at : List ℕ → Option (ℕ × List ℕ)
+unfoldable pub login_at : List ℕ → Option (ℕ × List ℕ)
 login_at text = let d = digits_in most_login_digits 0 text in cond (is_login_number d.0) (some d) none
 
 abbrev pub date_size : ℕ

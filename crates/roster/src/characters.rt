@@ -13,6 +13,7 @@ pub const CARRIAGE_RETURN: u8 = b'\r';
 pub const LINE_FEED: u8 = b'\n';
 
 // The text behind a character.
+#[tactic(auto, using(crate::proofs::Found::char_other, crate::proofs::Found::char_end))]
 pub fn behind(text: &[u8], c: u8) -> Option<&[u8]>
     ensures { rest_found result ≡ char c text.now }
 {
@@ -21,6 +22,7 @@ pub fn behind(text: &[u8], c: u8) -> Option<&[u8]>
 }
 
 // The text behind a line's end, which the last line may lack.
+#[tactic(auto, using(crate::proofs::Chains::chains, crate::proofs::Found::not_end))]
 fn behind_line(text: &[u8]) -> Option<&[u8]>
     ensures { rest_found result ≡ line_end text.now }
 {

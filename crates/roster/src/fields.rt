@@ -17,6 +17,7 @@ const MOST_LOGIN: u64 = 4294967295;
 const RIGHTS_DIGITS: usize = 4;
 
 // The values where they stand, without quotes, and the texts behind them.
+#[tactic(auto, unfolding(crate::specs::Code::login_at))]
 fn login_at(text: &[u8]) -> Option<(u32, &[u8])>
     ensures { field_found result ≡ login_at text.now }
 {
@@ -27,6 +28,7 @@ fn login_at(text: &[u8]) -> Option<(u32, &[u8])>
     Some((login.value as u32, &text[login.end..]))
 }
 
+#[tactic(auto, using(crate::proofs::Chains::chains, crate::proofs::Values::end_short))]
 fn end_at(text: &[u8]) -> Option<(u32, &[u8])>
     ensures { field_found result ≡ value_at date_size day_in text.now }
 {
@@ -51,6 +53,7 @@ fn four_digits(a: u32, b: u32, c: u32, d: u32) -> u32
 }
 
 // The rights of four characters.
+#[tactic(auto, using(crate::proofs::Chains::chains, crate::proofs::Values::rights_of))]
 fn rights_in(text: &[u8; RIGHTS_DIGITS]) -> Option<u32>
     ensures { value_found result ≡ rights_in text.now }
 {
@@ -59,6 +62,7 @@ fn rights_in(text: &[u8; RIGHTS_DIGITS]) -> Option<u32>
     if rights == 0 { None } else { Some(rights) }
 }
 
+#[tactic(auto, using(crate::proofs::Chains::chains, crate::proofs::Values::rights_short))]
 fn rights_at(text: &[u8]) -> Option<(u32, &[u8])>
     ensures { field_found result ≡ value_at rights_digits rights_in text.now }
 {
@@ -78,6 +82,7 @@ fn open(text: &[u8]) -> (bool, &[u8])
 }
 
 // A value where its field is closed and its separator follows: the end of the line, if the field is the last one, or a comma.
+#[tactic(auto, using(crate::proofs::Chains::chains))]
 fn ended(value: u32, text: &[u8], quoted: bool, last: bool) -> Option<(u32, &[u8])>
     ensures { field_found result ≡ closed quoted (separator last) (value, text.now) }
 {
@@ -85,6 +90,7 @@ fn ended(value: u32, text: &[u8], quoted: bool, last: bool) -> Option<(u32, &[u8
     Some((value, behind_separator(rest, last)?))
 }
 
+#[tactic(auto, using(crate::proofs::Chains::chains, crate::proofs::Finding::login_found))]
 pub fn login_field(text: &[u8]) -> Option<(u32, &[u8])>
     ensures { field_found result ≡ separated login_in (separator false) text.now }
 {
@@ -93,6 +99,7 @@ pub fn login_field(text: &[u8]) -> Option<(u32, &[u8])>
     ended(login, rest, quoted, false)
 }
 
+#[tactic(auto, using(crate::proofs::Chains::chains, crate::proofs::Finding::end_found))]
 pub fn end_field(text: &[u8]) -> Option<(u32, &[u8])>
     ensures { field_found result ≡ separated day_in (separator false) text.now }
 {
@@ -101,6 +108,7 @@ pub fn end_field(text: &[u8]) -> Option<(u32, &[u8])>
     ended(end, rest, quoted, false)
 }
 
+#[tactic(auto, using(crate::proofs::Chains::chains, crate::proofs::Finding::rights_found))]
 pub fn rights_field(text: &[u8]) -> Option<(u32, &[u8])>
     ensures { field_found result ≡ separated rights_in (separator true) text.now }
 {

@@ -8,6 +8,7 @@ use crate::rows::Rows;
 use state::{Day, Login};
 
 // The line at the front.
+#[tactic(auto, using(crate::proofs::Chains::chains, crate::proofs::Finding::rights_below), unfolding(crate::specs::Code::line_in))]
 fn line_at(text: &[u8]) -> Option<(Login, &[u8])>
     ensures { line_found result ≡ line_in text.now }
 {

@@ -9,6 +9,7 @@ use Rattle.std.specs.Prelude.{Ok}
 use Rattle.refusals.specs.declared.Refusal.TheVariants.{NoRosterRoom}
 use Rattle.lists.proofs.Tests.{cond_cases}
 use Rattle.binary.specs.Number.{overwrite}
+use Rattle.binary.proofs.Splices.{splice-overwrite}
 use Rattle.roster.specs.Calls.{Outcome, refused, give}
 
 module _ (n : ℕ) (bytes out : List ℕ) where
@@ -25,3 +26,6 @@ module _ (n : ℕ) (bytes out : List ℕ) where
       → (length out < length bytes → P (refused NoRosterRoom out)) → P (give n bytes out)
   unfolding give
   give-cases P f g = cond_cases P (leb (length bytes) (length out)) (λ t. f (leb-true _ _ t)) (λ t. g (leb-false _ _ t))
+
+-- what a slice holds after a line is given, or refused
+pub ruleset giving = (no_room, fits, splice-overwrite)

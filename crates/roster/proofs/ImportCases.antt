@@ -19,15 +19,15 @@ use Rattle.roster.proofs.GrantBytes.{grants-count, grants-size}
 use Rattle.roster.proofs.Giving.{no_room, fits}
 
 module _ (text : List ℕ) (c : Cycle) (d : Day) (out : List ℕ) where
-  pub not-read : roster_in text ≡ none → import_of text c d out ≡ refused BadRoster out
+  pub not_read : roster_in text ≡ none → import_of text c d out ≡ refused BadRoster out
   unfolding import_of imported bind
-  not-read e = rw e
+  not_read e = rw e
 
   -- the roster was read
   module _ (rows : List Login) (e : roster_in text ≡ some rows) where
-    pub out-of-cycles : cycles_since last_cycle c < length rows → import_of text c d out ≡ refused BadRoster out
+    pub out_of_cycles : cycles_since last_cycle c < length rows → import_of text c d out ≡ refused BadRoster out
     unfolding import_of imported bind
-    out-of-cycles h = rw (e, lt-leb _ _ h)
+    out_of_cycles h = rw (e, lt-leb _ _ h)
 
     module _ (h : length rows ≤ cycles_since last_cycle c) where
       given : import_of text c d out ≡ give (length rows) (bytes_of (grants_of c d rows)) out
@@ -37,6 +37,6 @@ module _ (text : List ℕ) (c : Cycle) (d : Day) (out : List ℕ) where
       pub too_short : length out < announcement_size * length rows → import_of text c d out ≡ refused NoRosterRoom out
       too_short k = given ∙ no_room _ (bytes_of (grants_of c d rows)) out (rw (grants-size c d rows) k)
 
-      pub grants-given : announcement_size * length rows ≤ length out
+      pub grants_given : announcement_size * length rows ≤ length out
           → import_of text c d out ≡ record { answer = Ok (length rows); slice = overwrite (bytes_of (grants_of c d rows)) out }
-      grants-given k = given ∙ fits _ (bytes_of (grants_of c d rows)) out (rw (grants-size c d rows) k)
+      grants_given k = given ∙ fits _ (bytes_of (grants_of c d rows)) out (rw (grants-size c d rows) k)

@@ -28,20 +28,20 @@ no_row (Grant r) n = absurd (n r refl)
 no_row (End login) n = refl
 
 module _ (b out : List ℕ) where
-  pub not-read : read_announcement b ≡ Malformed → export_of b out ≡ refused BadRoster out
+  pub not_read : read_announcement b ≡ Malformed → export_of b out ≡ refused BadRoster out
   unfolding export_of exported bind
-  not-read e = rw e
+  not_read e = rw e
 
   module _ (a : Announcement) (e : read_announcement b ≡ Read a) where
-    pub not-granted : ((r : Login) → a.action ≡ Grant r → ⊥) → export_of b out ≡ refused BadRoster out
+    pub not_granted : ((r : Login) → a.action ≡ Grant r → ⊥) → export_of b out ≡ refused BadRoster out
     unfolding export_of exported bind
-    not-granted n = rw (e, no_row a.action n)
+    not_granted n = rw (e, no_row a.action n)
 
     module _ (r : Login) (g : a.action ≡ Grant r) where
-      pub too-late : last_day < r.end.0 → export_of b out ≡ refused BadRoster out
+      pub too_late : last_day < r.end.0 → export_of b out ≡ refused BadRoster out
       unfolding export_of exported bind
-      too-late h = rw (e, g, lt-leb r.end.0 last_day h)
+      too_late h = rw (e, g, lt-leb r.end.0 last_day h)
 
-      pub in-time : r.end.0 ≤ last_day → export_of b out ≡ give (length (line_of r)) (line_of r) out
+      pub in_time : r.end.0 ≤ last_day → export_of b out ≡ give (length (line_of r)) (line_of r) out
       unfolding export_of exported bind
-      in-time h = rw (e, g, le-leb r.end.0 last_day h)
+      in_time h = rw (e, g, le-leb r.end.0 last_day h)

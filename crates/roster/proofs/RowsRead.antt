@@ -41,27 +41,27 @@ one-before front r (some rs) = ap some (sym (append_assoc front (r ∷ []) rs))
 
 module _ {text : List ℕ} {rows : List Login} {rest : List ℕ} (s : RowsRead text rows rest) where
   module _ (h : 0 < length rest) where
-    pub rows-over : length rows ≡ most_lines → roster_in text ≡ none
+    pub rows_over : length rows ≡ most_lines → roster_in text ≡ none
     unfolding bind
-    rows-over e = s.same ∙ rw (e, rows-full rest (not_end rest h))
+    rows_over e = s.same ∙ rw (e, rows-full rest (not_end rest h))
 
     turn : length rows < most_lines → rows_of (most_lines - length rows) rest ≡ bind (line_in rest) (turn_of (most_lines - (length rows + 1)))
     turn l =
         let e : most_lines - length rows ≡ suc (most_lines - (length rows + 1)) = omega arith in
         rw e (rows-turn (most_lines - (length rows + 1)) rest (not_end rest h))
 
-    pub rows-bad : line_in rest ≡ none → roster_in text ≡ none
+    pub rows_bad : line_in rest ≡ none → roster_in text ≡ none
     unfolding bind
-    rows-bad e = at (eqb (length rows) most_lines) refl
+    rows_bad e = at (eqb (length rows) most_lines) refl
       where
         at : (full : Bool) → eqb (length rows) most_lines ≡ full → roster_in text ≡ none
-        at true q = rows-over (eqb-true _ _ q)
+        at true q = rows_over (eqb-true _ _ q)
         at false q = let n = eqb-false _ _ q in s.same ∙ rw (turn (omega (arith, s.few)), e)
 
-    pub rows-one : {r : Login} → length (rows ++ (r ∷ [])) ≤ most_lines → (behind : List ℕ) → line_in rest ≡ some (r, behind)
+    pub rows_one : {r : Login} → length (rows ++ (r ∷ [])) ≤ most_lines → (behind : List ℕ) → line_in rest ≡ some (r, behind)
         → RowsRead text (rows ++ (r ∷ [])) behind
     unfolding bind
-    rows-one {r} few behind e =
+    rows_one {r} few behind e =
         let n : length (rows ++ (r ∷ [])) ≡ length rows + 1 = rw length-append in
         let l : length rows < most_lines = omega arith in
         let others : Option (List Login) = rows_of (most_lines - (length rows + 1)) behind in

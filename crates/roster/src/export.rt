@@ -12,6 +12,7 @@ use refusals::Refusal;
 use state::Login;
 
 // Writes a row's line to the front of a slice, where it has room, and answers its length: at once, if every line would fit.
+#[tactic(auto, using(crate::proofs::Giving::giving))]
 fn give_line(row: Login, out: &mut [u8]) -> Result<u8, Refusal>
     requires { row.end.0 ≤ last_day }
     ensures value { result ≡ (give (length (line_of row)) (line_of row) out.old).answer }
@@ -30,6 +31,7 @@ fn give_line(row: Login, out: &mut [u8]) -> Result<u8, Refusal>
 }
 
 // The line of a grant that ends by 2099-12-31.
+#[tactic(auto, using(crate::proofs::LineBytes::not_read, crate::proofs::LineBytes::not_granted, crate::proofs::LineBytes::too_late, crate::proofs::LineBytes::in_time))]
 pub fn export_grant(announcement: &[u8], out: &mut [u8]) -> Result<u8, Refusal>
     ensures value { result ≡ (export_of announcement.now out.old).answer }
     ensures out_after { out.new ≡ (export_of announcement.now out.old).slice }

@@ -48,6 +48,7 @@ pub fn put_grant(out: &mut [u8], at: usize, cycle: Cycle, day: Day, row: Login)
 }
 
 // The grants of rows, one behind the other, in cycles that rise by one.
+#[tactic(auto, using(crate::proofs::GrantBytes::written_none, crate::proofs::GrantBytes::written_one))]
 pub fn put_grants(out: &mut [u8], cycle: Cycle, day: Day, rows: &[Login])
     requires { announcement_size * length rows.now ≤ length out.old }
     ensures { out.new ≡ overwrite (bytes_of (grants_of cycle day rows.now)) out.old }

@@ -25,6 +25,7 @@ pub struct Date {
 }
 
 // A day of a year, counted from 0, as if February had 30 days, so that one formula serves for all months.
+#[tactic(auto, using(lists::proofs::Cases::cases), unfolding(crate::specs::Code::stretched))]
 fn stretched(leap: bool, day: u32) -> u32
     requires { day < 366 }
     ensures { result ≡ stretched leap day }
@@ -75,6 +76,7 @@ fn digit(x: u16) -> u8
 }
 
 // The ten characters of a date.
+#[tactic(auto, unfolding(decimal::specs::Decimal::padded))]
 fn date_text(date: Date) -> [u8; 10]
     ensures { result ≡ date_text date }
 {
@@ -96,6 +98,7 @@ fn date_text(date: Date) -> [u8; 10]
 }
 
 // Writes the ten characters of a day at a position.
+#[tactic(auto, unfolding(crate::specs::Text::day_text))]
 pub fn put_day(out: &mut [u8], at: usize, day: u32)
     requires { (day ≤ last_day) × (at + 10 ≤ length out.old) }
     ensures { out.new ≡ splice out.old at (day_text day) }

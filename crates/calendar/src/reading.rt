@@ -83,6 +83,7 @@ fn is_date(date: Date) -> bool
 }
 
 // The days of a year before a month, counted from 0: those of a year whose February has 30 days, less what it lacks.
+#[tactic(auto, using(crate::proofs::Formulas::winter_before, crate::proofs::Formulas::leap_before, crate::proofs::Formulas::common_before))]
 fn days_before(leap: bool, month: u32) -> u32
     requires { month < 12 }
     ensures { result ≡ months_days leap month }

@@ -28,7 +28,8 @@ pub struct Date {
 #[tactic(auto, using(lists::proofs::Cases::cases), unfolding(crate::specs::Code::stretched))]
 fn stretched(leap: bool, day: u32) -> u32
     requires { day < 366 }
-    ensures { result ≡ stretched leap day }
+    ensures value { result ≡ stretched leap day }
+    ensures upper_bound { result ≤ day + 2 }
 {
     if leap {
         if day < 60 {

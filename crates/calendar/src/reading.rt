@@ -47,6 +47,7 @@ fn date_by(hundred: u8, year: u8, month: u8, day: u8) -> Date
 }
 
 // The numbers that stand where a date has year, month and day.
+#[tactic(auto, unfolding(crate::specs::Code::is_date_like))]
 fn date_in(text: &[u8; DATE_SIZE]) -> Date
     requires { is_date_like text.now ≡ true }
     ensures { result ≡ date_in text.now }
@@ -99,6 +100,7 @@ fn days_before(leap: bool, month: u32) -> u32
 }
 
 // The number of the day of a date.
+#[tactic(auto, unfolding(crate::specs::Text::is_date))]
 fn day_of(date: Date) -> u32
     requires { is_date date ≡ true }
     ensures { result ≡ day_of date }

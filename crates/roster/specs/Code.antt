@@ -1,5 +1,5 @@
 -- Words of the code's contracts: what its readers find at the front of a text. Nothing of the paper.
-use Rattle.std.specs.Prelude.{ℕ, List, Bool, true, false, cond, take, drop}
+use Rattle.std.specs.Prelude.{◌≡◌, ℕ, List, Bool, true, false, cond, take, drop}
 use Rattle.std.specs.Prelude as Rust
 use Rattle.std.specs.Borrow.{Bor}
 use Rattle.std.proofs.Math.Option.{Option, none, some, bind}
@@ -7,7 +7,7 @@ use Rattle.decimal.specs.Code.{digits_in}
 use Rattle.calendar.specs.Text.{day_in}
 use Rattle.state.specs.declared.Login.{Login}
 use Rattle.state.specs.Time.{day}
-use Rattle.roster.specs.Csv.{quote, comma, char, field_in, line_end}
+use Rattle.roster.specs.Csv.{quote, comma, begins, char, field_in, line_end}
 use Rattle.roster.specs.Fields.{most_login_digits, is_login_number, login_in, is_hex_digit, hex_value, rights_in}
 
 -- ---- what is found, as the option that definitions chain: of a reference, what it points to
@@ -50,6 +50,18 @@ separated value after text = bind (field_in text) (λ f. bind (value f.0) (λ x.
 -- a value where its field is closed, by a quote if it was opened by one, and followed by a separator
 abbrev pub closed : Bool → (List ℕ → Option (List ℕ)) → ℕ × List ℕ → Option (ℕ × List ℕ)
 closed quoted after p = bind (cond quoted (char quote p.1) (some p.1)) (λ t. followed p.0 (after t))
+
+-- where the value of a field begins
+abbrev pub opened : List ℕ → List ℕ
+opened t = cond (begins quote t) (drop 1 t) t
+
+-- the value that is found where the field at the front has it, and is followed by a separator
+abbrev pub field_by : (List ℕ → Option (ℕ × List ℕ)) → Bool → List ℕ → Option (ℕ × List ℕ)
+field_by find last t = bind (find (opened t)) (closed (begins quote t) (separator last))
+
+-- what a reader answers, by the results of its calls
+abbrev pub ReadsAs : (Bor (List ℕ) → Rust.Option (ℕ × Bor (List ℕ)) → Type 0) → (List ℕ → Option (ℕ × List ℕ)) → Type 0
+ReadsAs post find = (t : Bor (List ℕ)) (r : Rust.Option (ℕ × Bor (List ℕ))) → post t r → field_found r ≡ find t.now
 
 -- the line at the front
 unfoldable pub line_in : List ℕ → Option (Login × List ℕ)

@@ -1,10 +1,10 @@
 // The three fields of a line, each with what separates it from the text behind it. A value is read where it stands, quoted or not: none has a quote in
 // it, so nothing is copied.
-ghost use Rattle.std.specs.Prelude.{◌≡◌, ◌+◌, ◌*◌, ◌<◌, true, false, cond, drop, IfSome};
+ghost use Rattle.std.specs.Prelude.{◌≡◌, ◌+◌, ◌*◌, ◌<◌, true, cond, drop, IfSome};
 ghost use Rattle.calendar.specs.Text.{day_in};
 ghost use Rattle.roster.specs.Csv.{quote, begins};
-ghost use Rattle.roster.specs.Fields.{login_in, rights_digits, rights_in};
-ghost use Rattle.roster.specs.Code.{value_found, field_found, login_at, date_size, value_at, hex_of, separator, closed, separated};
+ghost use Rattle.roster.specs.Fields.{rights_digits, rights_in};
+ghost use Rattle.roster.specs.Code.{ReadsAs, value_found, field_found, login_at, date_size, value_at, hex_of, separator, closed, field_by};
 
 use crate::characters::{QUOTE, behind, behind_quote, behind_separator};
 use calendar::{DATE_SIZE, day_in};
@@ -18,7 +18,7 @@ const RIGHTS_DIGITS: usize = 4;
 
 // The values where they stand, without quotes, and the texts behind them.
 #[tactic(auto, unfolding(crate::specs::Code::login_at))]
-fn login_at(text: &[u8]) -> Option<(u32, &[u8])>
+pub fn login_at(text: &[u8]) -> Option<(u32, &[u8])>
     ensures { field_found result ≡ login_at text.now }
 {
     let login = number_at(text, 0, MOST_LOGIN_DIGITS);
@@ -29,7 +29,7 @@ fn login_at(text: &[u8]) -> Option<(u32, &[u8])>
 }
 
 #[tactic(auto, using(crate::proofs::Chains::chains, crate::proofs::Values::end_short))]
-fn end_at(text: &[u8]) -> Option<(u32, &[u8])>
+pub fn end_at(text: &[u8]) -> Option<(u32, &[u8])>
     ensures { field_found result ≡ value_at date_size day_in text.now }
 {
     let (date, rest) = text.split_at_checked(DATE_SIZE)?;
@@ -63,7 +63,7 @@ fn rights_in(text: &[u8; RIGHTS_DIGITS]) -> Option<u32>
 }
 
 #[tactic(auto, using(crate::proofs::Chains::chains, crate::proofs::Values::rights_short))]
-fn rights_at(text: &[u8]) -> Option<(u32, &[u8])>
+pub fn rights_at(text: &[u8]) -> Option<(u32, &[u8])>
     ensures { field_found result ≡ value_at rights_digits rights_in text.now }
 {
     let (digits, rest) = text.split_first_chunk::<RIGHTS_DIGITS>()?;
@@ -90,29 +90,17 @@ fn ended(value: u32, text: &[u8], quoted: bool, last: bool) -> Option<(u32, &[u8
     Some((value, behind_separator(rest, last)?))
 }
 
-#[tactic(auto, using(crate::proofs::Chains::chains, crate::proofs::Finding::login_found))]
-pub fn login_field(text: &[u8]) -> Option<(u32, &[u8])>
-    ensures { field_found result ≡ separated login_in (separator false) text.now }
+// A field with its separator, where `read` reads its value.
+#[tactic(auto, using(crate::proofs::Chains::chains))]
+pub fn field<'a, F: Fn(&'a [u8]) -> Option<(u32, &'a [u8])>>(
+    text: &'a [u8],
+    read: F,
+    last: bool,
+) -> Option<(u32, &'a [u8])>
+    requires { F.IsAlwaysCallable read }
+    ensures { (find : _) → ReadsAs (F.post read) find → field_found result ≡ field_by find last text.now }
 {
     let (quoted, text) = open(text);
-    let (login, rest) = login_at(text)?;
-    ended(login, rest, quoted, false)
-}
-
-#[tactic(auto, using(crate::proofs::Chains::chains, crate::proofs::Finding::end_found))]
-pub fn end_field(text: &[u8]) -> Option<(u32, &[u8])>
-    ensures { field_found result ≡ separated day_in (separator false) text.now }
-{
-    let (quoted, text) = open(text);
-    let (end, rest) = end_at(text)?;
-    ended(end, rest, quoted, false)
-}
-
-#[tactic(auto, using(crate::proofs::Chains::chains, crate::proofs::Finding::rights_found))]
-pub fn rights_field(text: &[u8]) -> Option<(u32, &[u8])>
-    ensures { field_found result ≡ separated rights_in (separator true) text.now }
-{
-    let (quoted, text) = open(text);
-    let (rights, rest) = rights_at(text)?;
-    ended(rights, rest, quoted, true)
+    let (value, rest) = read(text)?;
+    ended(value, rest, quoted, last)
 }

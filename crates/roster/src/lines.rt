@@ -3,18 +3,17 @@ ghost use Rattle.std.specs.Prelude.{◌≡◌};
 ghost use Rattle.roster.specs.Roster.{roster_in};
 ghost use Rattle.roster.specs.Code.{line_found, line_in, rows_found};
 
-use crate::fields::{end_field, login_field, rights_field};
+use crate::fields::{end_at, field, login_at, rights_at};
 use crate::rows::Rows;
 use state::{Day, Login};
 
 // The line at the front.
-#[tactic(auto, using(crate::proofs::Chains::chains, crate::proofs::Finding::rights_below), unfolding(crate::specs::Code::line_in))]
 fn line_at(text: &[u8]) -> Option<(Login, &[u8])>
     ensures { line_found result ≡ line_in text.now }
 {
-    let (login, text) = login_field(text)?;
-    let (end, text) = end_field(text)?;
-    let (rights, text) = rights_field(text)?;
+    let (login, text) = field(text, login_at, false)?;
+    let (end, text) = field(text, end_at, false)?;
+    let (rights, text) = field(text, rights_at, true)?;
     let row = Login {
         login,
         end: Day(end),

@@ -116,11 +116,6 @@ month-found leap n d e h =
     let t = simp and-eq-true_iff at (passes-below (is_in_month leap) (cond leap 366 365) (all-in-month leap) n h) in
     rw e (omega (arith, ltb-true, leb-true, eqb-true))
 
--- a year has at most 366 days
-pub year-at-most : (leap : Bool) (n : ℕ) → n < cond leap 366 365 → n < 366
-year-at-most true n h = omega arith
-year-at-most false n h = omega arith
-
 -- the date with this year, this month and this day of the month
 pub date-in-year : (y n d : ℕ) (leap : Bool) → 1970 ≤ y → leap ≡ is_leap y → InMonth leap n d
     → date y (month_at d + 1) (d - month_start (month_at d) + 1) ≡ date_of (years_days (y - 1970) + n)

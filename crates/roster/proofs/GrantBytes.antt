@@ -79,3 +79,6 @@ module _ (day : Day) where
         let all_done : h.done ≡ bytes_of (grants_of c day rows) =
         sym (append-nil h.done) ∙ ap (λ (l : List ℕ). h.done ++ l) (sym none_left) ∙ h.rest in
         h.wrote.is ∙ ap (splice d₀ 0) all_done ∙ splice-overwrite d₀ _
+
+-- the loop over the rows, up to its end
+pub ruleset grants_written = (written_none, written_one)

@@ -40,3 +40,6 @@ module _ (text : List ℕ) (c : Cycle) (d : Day) (out : List ℕ) where
       pub grants_given : announcement_size * length rows ≤ length out
           → import_of text c d out ≡ record { answer = Ok (length rows); slice = overwrite (bytes_of (grants_of c d rows)) out }
       grants_given k = given ∙ fits _ (bytes_of (grants_of c d rows)) out (rw (grants-size c d rows) k)
+
+-- what an import answers, in each case
+pub ruleset import_cases = (not_read, out_of_cycles, too_short, grants_given)

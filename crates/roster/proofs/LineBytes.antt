@@ -1,11 +1,14 @@
 -- What an export answers, in each of its cases.
 use Prim.Native.Nat.{ℕ, ◌≤◌, ◌<◌}
+use native.Mathlib.Omega.{arith}
 use mathlib.Core.Path.{◌≡◌, refl}
 use mathlib.Core.List.{List}
 use mathlib.Core.Option.{none, bind}
 use lib.ListN.{length}
 use borrow.Author.Tests.{le-leb, lt-leb}
 use Rattle.refusals.specs.declared.Refusal.TheVariants.{BadRoster}
+use Rattle.decimal.specs.Decimal.{decimal}
+use Rattle.decimal.proofs.Stored.{length-below}
 use Rattle.calendar.specs.Text.{last_day}
 use Rattle.state.specs.declared.Login.{Login}
 use Rattle.records.specs.declared.Announcement.{Announcement}
@@ -15,6 +18,10 @@ use Rattle.records.specs.declared.AnnouncementRead.TheVariants.{Read, Malformed}
 use Rattle.records.specs.Announcement.{read_announcement}
 use Rattle.roster.specs.Roster.{line_of}
 use Rattle.roster.specs.Calls.{refused, give, granted, exported, export_of}
+
+-- a login has at most ten digits
+pub login_size : (x : ℕ) → x < 4294967296 → length (decimal x) ≤ 10
+login_size x h = length-below 10 x (omega arith) (omega arith) (omega arith)
 
 no_row : (x : Action) → ((r : Login) → x ≡ Grant r → ⊥) → granted x ≡ none
 no_row (Propose x) n = refl
@@ -45,3 +52,6 @@ module _ (b out : List ℕ) where
       pub in_time : r.end.0 ≤ last_day → export_of b out ≡ give (length (line_of r)) (line_of r) out
       unfolding export_of exported bind
       in_time h = rw (e, g, le-leb r.end.0 last_day h)
+
+-- what an export answers, in each case
+pub ruleset export_cases = (not_read, not_granted, too_late, in_time)

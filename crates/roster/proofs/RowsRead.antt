@@ -71,3 +71,6 @@ module _ {text : List ℕ} {rows : List Login} {rest : List ℕ} (s : RowsRead t
   pub rows_all : length rest ≡ 0 → roster_in text ≡ some rows
   unfolding bind
   rows_all h = s.same ∙ rw (is_nil rest h, rows_end (most_lines - length rows), append-nil)
+
+-- the loop over the lines
+pub ruleset rows_read = (rows_none, rows_over, rows_bad, rows_one, rows_all)

@@ -33,10 +33,6 @@ followed-to x o p e =
     let q = some-injective _ _ a.2 in
     (a.1 ∙ ap (λ (y : Found). some y.1) q, ap (λ (y : Found). y.0) q)
 
-followed_of : (p : Found) (o : Option (List ℕ)) → o ≡ some p.1 → followed p.0 o ≡ some p
-unfolding bind
-followed_of p o e = rw e
-
 module _ (value : List ℕ → Option ℕ) (after : List ℕ → Option (List ℕ)) where
   -- a field at the front of a text, with its value and its separator
   pub record IsSeparated (t : List ℕ) (p : Found) : Type 0 where

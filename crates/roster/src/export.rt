@@ -1,27 +1,24 @@
 // A grant exported as a line.
-ghost use Rattle.std.specs.Prelude.{◌≡◌, ◌≤◌, length};
-ghost use Rattle.calendar.specs.Text.{last_day};
+ghost use Rattle.std.specs.Prelude.{◌≡◌, length};
 ghost use Rattle.roster.specs.Roster.{line_of};
 ghost use Rattle.roster.specs.Calls.{give, export_of};
 
-use crate::written::{LINE_ROOM, line_of, put_line};
+use crate::written::{DatedRow, LINE_ROOM};
 use binary::put_bytes;
 use calendar::LAST_DAY;
 use records::{Action, AnnouncementRead, read_announcement};
 use refusals::Refusal;
-use state::Login;
 
 // Writes a row's line to the front of a slice, where it has room, and answers its length: at once, if every line would fit.
 #[tactic(auto, using(crate::proofs::Giving::giving))]
-fn give_line(row: Login, out: &mut [u8]) -> Result<u8, Refusal>
-    requires { row.end.0 ≤ last_day }
-    ensures value { result ≡ (give (length (line_of row)) (line_of row) out.old).answer }
-    ensures out_after { out.new ≡ (give (length (line_of row)) (line_of row) out.old).slice }
+fn give_line(dated: DatedRow, out: &mut [u8]) -> Result<u8, Refusal>
+    ensures value { result ≡ (give (length (line_of dated.row)) (line_of dated.row) out.old).answer }
+    ensures out_after { out.new ≡ (give (length (line_of dated.row)) (line_of dated.row) out.old).slice }
 {
     if LINE_ROOM <= out.len() {
-        return Ok(put_line(out, row) as u8);
+        return Ok(dated.put_line(out) as u8);
     }
-    let line = line_of(row);
+    let line = dated.line();
     let text = line.text();
     if out.len() < text.len() {
         return Err(Refusal::NoRosterRoom);
@@ -31,7 +28,7 @@ fn give_line(row: Login, out: &mut [u8]) -> Result<u8, Refusal>
 }
 
 // The line of a grant that ends by 2099-12-31.
-#[tactic(auto, using(crate::proofs::LineBytes::not_read, crate::proofs::LineBytes::not_granted, crate::proofs::LineBytes::too_late, crate::proofs::LineBytes::in_time))]
+#[tactic(auto, using(crate::proofs::LineBytes::export_cases))]
 pub fn export_grant(announcement: &[u8], out: &mut [u8]) -> Result<u8, Refusal>
     ensures value { result ≡ (export_of announcement.now out.old).answer }
     ensures out_after { out.new ≡ (export_of announcement.now out.old).slice }
@@ -45,5 +42,5 @@ pub fn export_grant(announcement: &[u8], out: &mut [u8]) -> Result<u8, Refusal>
     if LAST_DAY < row.end.0 {
         return Err(Refusal::BadRoster);
     }
-    give_line(row, out)
+    give_line(DatedRow { row }, out)
 }

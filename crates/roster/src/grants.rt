@@ -31,9 +31,8 @@ fn put_arguments(out: &mut [u8], at: usize, row: Login)
     requires { at + arguments_size ≤ length out.old }
     ensures { out.new ≡ splice out.old at (fill arguments_size 0 (argument_bytes (Grant row))) }
 {
-    let end = row.end;
     put_u32(out, at, row.login);
-    put_u32(out, at + 4, end.0);
+    put_u32(out, at + 4, row.end.0);
     put_u16(out, at + 8, row.rights);
     put_u16(out, at + 10, 0);
 }
@@ -48,7 +47,7 @@ pub fn put_grant(out: &mut [u8], at: usize, cycle: Cycle, day: Day, row: Login)
 }
 
 // The grants of rows, one behind the other, in cycles that rise by one.
-#[tactic(auto, using(crate::proofs::GrantBytes::written_none, crate::proofs::GrantBytes::written_one))]
+#[tactic(auto, using(crate::proofs::GrantBytes::grants_written))]
 pub fn put_grants(out: &mut [u8], cycle: Cycle, day: Day, rows: &[Login])
     requires { announcement_size * length rows.now ≤ length out.old }
     ensures { out.new ≡ overwrite (bytes_of (grants_of cycle day rows.now)) out.old }

@@ -11,7 +11,7 @@ use state::{Cycle, Day};
 
 // The grants of a roster's lines, for a day and for cycles that rise by one from the given one, and their number. Nothing is written before all of it
 // is read.
-#[tactic(auto, using(crate::proofs::ImportCases::not_read, crate::proofs::ImportCases::out_of_cycles, crate::proofs::ImportCases::too_short, crate::proofs::ImportCases::grants_given))]
+#[tactic(auto, using(crate::proofs::ImportCases::import_cases))]
 pub fn import_roster(text: &[u8], cycle: Cycle, day: Day, out: &mut [u8]) -> Result<u8, Refusal>
     ensures value { result ≡ (import_of text.now cycle day out.old).answer }
     ensures out_after { out.new ≡ (import_of text.now cycle day out.old).slice }

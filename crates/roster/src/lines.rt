@@ -23,7 +23,7 @@ fn line_at(text: &[u8]) -> Option<(Login, &[u8])>
 }
 
 // The rows of a whole roster, of up to 64 lines.
-#[tactic(auto, using(crate::proofs::RowsRead::rows_none, crate::proofs::RowsRead::rows_over, crate::proofs::RowsRead::rows_bad, crate::proofs::RowsRead::rows_one, crate::proofs::RowsRead::rows_all))]
+#[tactic(auto, using(crate::proofs::RowsRead::rows_read))]
 pub fn read_roster(text: &[u8]) -> Option<Rows>
     ensures { rows_found result ≡ roster_in text.now }
 {

@@ -67,27 +67,34 @@ fn rights_text(rights: u16) -> [u8; 7]
     ]
 }
 
-// Writes a row's line to the front of a slice, and answers where it ends.
-pub fn put_line(out: &mut [u8], row: Login) -> usize
-    requires { (row.end.0 ≤ last_day) × (28 ≤ length out.old) }
-    ensures value { result ≡ length (line_of row) }
-    ensures upper_bound { result ≤ 28 }
-    ensures out_after { out.new ≡ overwrite (line_of row) out.old }
-{
-    let end = row.end;
-    let text = rights_text(row.rights);
-    let date = put_decimal(out, 0, row.login as u64);
-    put_u8(out, date, COMMA);
-    put_day(out, date + 1, end.0);
-    put_bytes(out, date + 11, &text)
+// A row whose end day has a date.
+#[derive(Clone, Copy)]
+pub struct DatedRow {
+    pub row: Login,
+    ghost dated: { row.end.0 ≤ last_day },
 }
 
-// The line of a row.
-pub fn line_of(row: Login) -> Line
-    requires { row.end.0 ≤ last_day }
-    ensures { result ≡ line_of row }
-{
-    let mut bytes = [0u8; LINE_ROOM];
-    let length = put_line(&mut bytes, row);
-    Line { bytes, length }
+impl DatedRow {
+    // Writes the row's line to the front of a slice, and answers where it ends.
+    #[tactic(auto, using(crate::proofs::LineBytes::login_size))]
+    pub fn put_line(self, out: &mut [u8]) -> usize
+        requires { 28 ≤ length out.old }
+        ensures value { result ≡ length (line_of self.row) }
+        ensures upper_bound { result ≤ 28 }
+        ensures out_after { out.new ≡ overwrite (line_of self.row) out.old }
+    {
+        let row = self.row;
+        let date = put_decimal(out, 0, row.login as u64);
+        put_u8(out, date, COMMA);
+        put_day(out, date + 1, row.end.0);
+        put_bytes(out, date + 11, &rights_text(row.rights))
+    }
+
+    pub fn line(self) -> Line
+        ensures { result ≡ line_of self.row }
+    {
+        let mut bytes = [0; LINE_ROOM];
+        let length = self.put_line(&mut bytes);
+        Line { bytes, length }
+    }
 }

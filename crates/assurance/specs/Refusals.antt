@@ -7,7 +7,6 @@ use Rattle.state.specs.declared.Cycle.{Cycle}
 use Rattle.state.specs.declared.Day.{Day}
 use Rattle.records.specs.declared.Query.{Query}
 use Rattle.records.specs.StartQuery.{read_query}
-use Rattle.roster.specs.declared.RosterAnswer.TheVariants as Roster
 use Rattle.roster.specs.Calls.{import_of, export_of}
 use Rattle.shares.specs.Calls.{split_of, merge_of, add_of}
 use Rattle.std.specs.Prelude.{Err}
@@ -110,11 +109,11 @@ pub record SlicesKept : Type 0 where
   -- and so has what a roster's calls return
   pub roster-import : (roster : List ℕ) (c d : ℕ) (out : List ℕ) → (node_roster_import roster c d out).number % 256 ≢ 0
       → (node_roster_import roster c d out).slice ≡ out
-  pub import-by-value : (text : List ℕ) (c : Cycle) (d : Day) (out : List ℕ) (k : ℕ) → (import_of text c d out).answer ≡ Roster.Refused k
+  pub import-by-value : (text : List ℕ) (c : Cycle) (d : Day) (out : List ℕ) (r : Row.Refusal) → (import_of text c d out).answer ≡ Err r
       → (import_of text c d out).slice ≡ out
   pub roster-export : (announcement out : List ℕ) → (node_roster_export announcement out).number % 256 ≢ 0
       → (node_roster_export announcement out).slice ≡ out
-  pub export-by-value : (announcement out : List ℕ) (k : ℕ) → (export_of announcement out).answer ≡ Roster.Refused k
+  pub export-by-value : (announcement out : List ℕ) (r : Row.Refusal) → (export_of announcement out).answer ≡ Err r
       → (export_of announcement out).slice ≡ out
   -- and what a split returns
   pub shares-split : (key : List ℕ) (k n : ℕ) (cs out : List ℕ) → (node_shares_split key k n cs out).number % 256 ≢ 0

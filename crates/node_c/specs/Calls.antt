@@ -3,8 +3,6 @@ use Rattle.std.specs.Prelude.{ℕ, ◌*◌, ◌%◌, List, Bool, cond, ◌||◌,
 use Rattle.binary.specs.Number.{overwrite}
 use Rattle.node.specs.declared.Node.{Node}
 use Rattle.state.specs.Time.{cycle, day}
-use Rattle.roster.specs.declared.RosterAnswer.{RosterAnswer}
-use Rattle.roster.specs.declared.RosterAnswer.TheVariants as R
 use Rattle.roster.specs.Calls.{Outcome, import_of, export_of}
 use Rattle.shares.specs.Calls.{split_of, merge_of, add_of}
 use Rattle.std.specs.Prelude.{Result, Ok, Err}
@@ -87,9 +85,9 @@ node_page image d out = on_node_in image out (λ n. record { number = page_retur
 -- ---- rosters, which ask nothing of a node
 
 -- the answer in the low 8 bits, and above them the number of announcements or the length of the line, which is 0 for a refusal
-abbrev pub roster_returned : RosterAnswer → ℕ
-roster_returned (R.Given n) = 256 * n
-roster_returned (R.Refused k) = k
+abbrev pub roster_returned : Result ℕ Refusal → ℕ
+roster_returned (Ok n) = 256 * n
+roster_returned (Err r) = number_of r
 
 abbrev pub roster_return : Outcome → Returned
 roster_return x = record { number = roster_returned x.answer; slice = x.slice }

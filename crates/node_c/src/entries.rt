@@ -12,7 +12,8 @@ use checkpoint::layout::CHECKPOINT_SIZE;
 use image::layout::IMAGE_SIZE;
 use image::{is_image, node_in, put_image, write_image};
 use node::{CheckpointAnswer, DeliverAnswer, Node, PageAnswer, QueryAnswer, StartAnswer};
-use roster::{RosterAnswer, export_grant, import_roster};
+use refusals::Refusal;
+use roster::{export_grant, import_roster};
 use state::{Cycle, Day, State};
 use verdicts::{AttemptCounts, Own};
 
@@ -64,13 +65,13 @@ fn page_number(a: PageAnswer) -> u32
     }
 }
 
-// The number of announcements, or the length of the line, in the bits above the answer.
-fn roster_number(a: RosterAnswer) -> u32
-    ensures { result ≡ roster_returned a }
+// The number of announcements, or the length of the line, in the bits above the refusal.
+fn roster_number(answer: Result<u8, Refusal>) -> u32
+    ensures { result ≡ roster_returned answer }
 {
-    match a {
-        RosterAnswer::Given(n) => 256 * (n as u32),
-        RosterAnswer::Refused(k) => k as u32,
+    match answer {
+        Ok(given) => 256 * u32::from(given),
+        Err(refusal) => u32::from(refusal.number()),
     }
 }
 
@@ -200,18 +201,18 @@ pub fn node_page(image: &[u8], day: u32, out: &mut [u8]) -> u32
     1
 }
 
+#[tactic(auto, unfolding(crate::specs::Calls::node_roster_import))]
 pub fn node_roster_import(roster: &[u8], cycle: u32, day: u32, out: &mut [u8]) -> u32
     ensures value { result ≡ (node_roster_import roster.now cycle day out.old).number }
     ensures out_after { out.new ≡ (node_roster_import roster.now cycle day out.old).slice }
 {
-    let answer = import_roster(roster, Cycle(cycle), Day(day), out);
-    roster_number(answer)
+    roster_number(import_roster(roster, Cycle(cycle), Day(day), out))
 }
 
+#[tactic(auto, unfolding(crate::specs::Calls::node_roster_export))]
 pub fn node_roster_export(announcement: &[u8], out: &mut [u8]) -> u32
     ensures value { result ≡ (node_roster_export announcement.now out.old).number }
     ensures out_after { out.new ≡ (node_roster_export announcement.now out.old).slice }
 {
-    let answer = export_grant(announcement, out);
-    roster_number(answer)
+    roster_number(export_grant(announcement, out))
 }

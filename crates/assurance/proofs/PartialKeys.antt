@@ -13,7 +13,8 @@ use Rattle.shares.specs.Claims.{SplitAnswering, MergeAnswering, bad-number}
 use Rattle.shares.specs.Claims as C
 use Rattle.shares.specs.Renewal.{AddAnswering}
 use Rattle.shares.specs.Renewal as R
-use Rattle.node_c.specs.Calls.{split_returned, merge_returned, add_returned}
+use Rattle.node_c.specs.Calls.{value_returned, add_returned}
+use Rattle.refusals.specs.Refusals.{number_in}
 
 -- the call is refused, and the slice is as it was, or it gives something
 data Answered {A : Type 0} (given : A → Type 0) (out : List ℕ) (x : Outcome A) : Type 0 where
@@ -47,7 +48,7 @@ module _ (out : List ℕ) where
   split-kept key k n cs x a j e = kept x (split-answered key k n cs x a) (λ g. let z : Err j ≡ Ok n = sym e ∙ g in clash (cc))
 
   pub split-returned-kept : (key : List ℕ) (k n : ℕ) (cs : List ℕ) (x : Outcome (Result ℕ Refusal)) → SplitAnswering key k n cs out x
-      → split_returned x.answer % 256 ≢ 0 → x.slice ≡ out
+      → value_returned x.answer % 256 ≢ 0 → x.slice ≡ out
   split-returned-kept key k n cs x a h = kept x (split-answered key k n cs x a) (λ g. h (rw g (omega arith)))
 
   pub merge-kept : (k n : ℕ) (numbers shares : List ℕ) (x : Outcome (Result Unit Refusal)) → MergeAnswering k n numbers shares out x
@@ -56,7 +57,7 @@ module _ (out : List ℕ) where
       kept x (merge-answered k n numbers shares x a) (λ g. let z : Err j ≡ Ok tt = sym e ∙ g in clash (cc))
 
   pub merge-returned-kept : (k n : ℕ) (numbers shares : List ℕ) (x : Outcome (Result Unit Refusal)) → MergeAnswering k n numbers shares out x
-      → merge_returned x.answer ≢ 0 → x.slice ≡ out
+      → number_in x.answer ≢ 0 → x.slice ≡ out
   merge-returned-kept k n numbers shares x a h = kept x (merge-answered k n numbers shares x a) (λ g. h (rw g refl))
 
   pub add_kept : (first second : List ℕ) (x : Outcome (Result ℕ Refusal)) → AddAnswering first second out x → (j : Refusal) → x.answer ≡ Err j → x.slice ≡ out

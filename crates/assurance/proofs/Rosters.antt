@@ -12,7 +12,7 @@ use Rattle.refusals.specs.declared.Refusal.{Refusal}
 use Rattle.roster.specs.Calls.{Outcome, refused}
 use Rattle.roster.specs.Claims.{ImportAnswering, ExportAnswering, no-grant}
 use Rattle.roster.specs.Claims as C
-use Rattle.node_c.specs.Calls.{roster_returned}
+use Rattle.node_c.specs.Calls.{value_returned}
 
 -- the call is refused, or it gives something
 pub data Answered (out : List ℕ) (x : Outcome) : Type 0 where
@@ -34,6 +34,6 @@ pub refusal-kept : (out : List ℕ) (x : Outcome) → Answered out x → (r : Re
 refusal-kept out x (refuses j q) k e = ap (λ (y : Outcome). y.slice) q
 refusal-kept out x (gives n q) k e = clash (cc)
 
-pub return_kept : (out : List ℕ) (x : Outcome) → Answered out x → roster_returned x.answer % 256 ≢ 0 → x.slice ≡ out
+pub return_kept : (out : List ℕ) (x : Outcome) → Answered out x → value_returned x.answer % 256 ≢ 0 → x.slice ≡ out
 return_kept out x (refuses j q) h = ap (λ (y : Outcome). y.slice) q
 return_kept out x (gives n q) h = absurd (h (rw q (omega arith)))

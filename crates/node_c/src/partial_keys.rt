@@ -2,6 +2,7 @@
 ghost use Rattle.std.specs.Prelude.{◌≡◌};
 ghost use Rattle.node_c.specs.Calls.{node_shares_split, node_shares_merge, node_shares_add};
 
+use crate::numbers::{number_in, value_returned};
 use shares::{add_shares, merge_shares, split_key};
 
 // Answers the number of shares in the bits above the refusal.
@@ -10,10 +11,7 @@ pub fn node_shares_split(key: &[u8], k: u32, n: u32, coefficients: &[u8], out: &
     ensures value { result ≡ (node_shares_split key.now k n coefficients.now out.old).number }
     ensures out_after { out.new ≡ (node_shares_split key.now k n coefficients.now out.old).slice }
 {
-    match split_key(key, k, n, coefficients, out) {
-        Ok(count) => 256 * u32::from(count),
-        Err(refusal) => u32::from(refusal.number()),
-    }
+    value_returned(split_key(key, k, n, coefficients, out))
 }
 
 #[tactic(auto, unfolding(crate::specs::Calls::node_shares_merge))]
@@ -21,10 +19,7 @@ pub fn node_shares_merge(k: u32, n: u32, numbers: &[u8], shares: &[u8], out: &mu
     ensures value { result ≡ (node_shares_merge k n numbers.now shares.now out.old).number }
     ensures out_after { out.new ≡ (node_shares_merge k n numbers.now shares.now out.old).slice }
 {
-    match merge_shares(k, n, numbers, shares, out) {
-        Ok(()) => 0,
-        Err(refusal) => u32::from(refusal.number()),
-    }
+    number_in(merge_shares(k, n, numbers, shares, out))
 }
 
 // Answers the low 24 bits of the number of bytes in the bits above the refusal.

@@ -14,7 +14,7 @@ use Rattle.state.specs.declared.Login.{Login}
 use Rattle.records.specs.declared.Announcement.{Announcement}
 use Rattle.records.specs.declared.Action.{Action}
 use Rattle.records.specs.declared.Action.TheVariants.{Propose, Cancel, Presents, Certify, Minima, Remove, Rejoin, Grant, End}
-use Rattle.records.specs.declared.AnnouncementRead.TheVariants.{Read, Malformed}
+use Rattle.std.specs.Prelude.{Some, None}
 use Rattle.records.specs.Announcement.{read_announcement}
 use Rattle.roster.specs.Roster.{line_of}
 use Rattle.roster.specs.Calls.{refused, give, granted, exported, export_of}
@@ -35,11 +35,11 @@ no_row (Grant r) n = absurd (n r refl)
 no_row (End login) n = refl
 
 module _ (b out : List ℕ) where
-  pub not_read : read_announcement b ≡ Malformed → export_of b out ≡ refused BadRoster out
+  pub not_read : read_announcement b ≡ None → export_of b out ≡ refused BadRoster out
   unfolding export_of exported bind
   not_read e = rw e
 
-  module _ (a : Announcement) (e : read_announcement b ≡ Read a) where
+  module _ (a : Announcement) (e : read_announcement b ≡ Some a) where
     pub not_granted : ((r : Login) → a.action ≡ Grant r → ⊥) → export_of b out ≡ refused BadRoster out
     unfolding export_of exported bind
     not_granted n = rw (e, no_row a.action n)

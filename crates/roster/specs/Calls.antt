@@ -1,5 +1,5 @@
 -- The two calls: what each answers, and what its output slice then holds. "24 comes before 25."
-use Rattle.std.specs.Prelude.{ℕ, List, [], ◌∷◌, ◌++◌, cond, leb, length, Result, Ok, Err}
+use Rattle.std.specs.Prelude.{ℕ, List, [], ◌∷◌, ◌++◌, cond, leb, length, Result, Ok, Err, Option, Some, None}
 use Rattle.std.proofs.Math.Option.{Option, none, some, bind}
 use Rattle.refusals.specs.declared.Refusal.{Refusal}
 use Rattle.refusals.specs.declared.Refusal.TheVariants.{BadRoster, NoRosterRoom}
@@ -12,8 +12,6 @@ use Rattle.state.specs.Time.{cycles_since, last_cycle, next_cycle}
 use Rattle.records.specs.declared.Announcement.{Announcement}
 use Rattle.records.specs.declared.Action.{Action}
 use Rattle.records.specs.declared.Action.TheVariants.{Propose, Cancel, Presents, Certify, Minima, Remove, Rejoin, Grant, End}
-use Rattle.records.specs.declared.AnnouncementRead.{AnnouncementRead}
-use Rattle.records.specs.declared.AnnouncementRead.TheVariants.{Read, Malformed}
 use Rattle.records.specs.Announcement.{read_announcement, announcement_bytes}
 use Rattle.roster.specs.Roster.{roster_in, line_of}
 
@@ -70,9 +68,9 @@ granted (Rejoin i life) = none
 granted (Grant r) = some r
 granted (End login) = none
 
-abbrev pub granted_by : AnnouncementRead → Option Login
-granted_by Malformed = none
-granted_by (Read a) = granted a.action
+abbrev pub granted_by : Option Announcement → Option Login
+granted_by None = none
+granted_by (Some a) = granted a.action
 
 -- the line of "a well-formed grant ending by 2099-12-31", or none for "anything but" that
 unfoldable pub exported : List ℕ → Option (List ℕ)

@@ -1,5 +1,5 @@
 -- What an office can rely on in its rosters.
-use Rattle.std.specs.Prelude.{◌≡◌, Ok, Bool, ℕ, ◌+◌, ◌*◌, ◌^◌, ◌≤◌, ◌<◌, length, get_or, take, drop}
+use Rattle.std.specs.Prelude.{◌≡◌, Ok, Bool, ℕ, ◌+◌, ◌*◌, ◌^◌, ◌≤◌, ◌<◌, length, get_or, take, drop, Option, Some}
 use mathlib.Core.List.{List, [], ◌∷◌, ◌++◌, Memᴰ}
 use Rattle.std.proofs.Math.Option.{Option, none, some, bind}
 use Rattle.refusals.specs.declared.Refusal.TheVariants.{BadRoster, NoRosterRoom}
@@ -12,7 +12,6 @@ use Rattle.state.specs.Time.{cycle, cycles_since, last_cycle, CycleBefore}
 use Rattle.state.specs.Rows.{no_login}
 use Rattle.records.specs.declared.Announcement.{Announcement}
 use Rattle.records.specs.declared.Action.TheVariants.{Grant}
-use Rattle.records.specs.declared.AnnouncementRead.TheVariants as A
 use Rattle.records.specs.Layout.{announcement_size}
 use Rattle.records.specs.Announcement.{read_announcement, announcement_bytes}
 use Rattle.roster.specs.Roster.{most_lines, more_fields, roster_in, line_of}
@@ -43,7 +42,7 @@ announcement_at i bytes = take announcement_size (drop (announcement_size * i) b
 -- three values of line i, on the given day.
 pub record IsGrant (rs : List Login) (c : Cycle) (d : Day) (bytes : List ℕ) (i : ℕ) : Type 0 where
   pub in-time : CycleBefore (cycle (c.0 + i)) last_cycle
-  pub read : read_announcement (announcement_at i bytes) ≡ A.Read (grant_of (cycle (c.0 + i)) d (get_or rs i no_login))
+  pub read : read_announcement (announcement_at i bytes) ≡ Some (grant_of (cycle (c.0 + i)) d (get_or rs i no_login))
 
 pub record AreGrants (rs : List Login) (c : Cycle) (d : Day) (grants : List Announcement) : Type 0 where
   pub count : length grants ≡ length rs
@@ -66,7 +65,7 @@ pub record ReadAgain (b : List ℕ) (r : Login) : Type 0 where
   pub said : roster_in (line_of r) ≡ some (r ∷ [])
 
 abbrev pub ExportsReadAgain : Type 0
-ExportsReadAgain = (b : List ℕ) (a : Announcement) (r : Login) → Bytes b → read_announcement b ≡ A.Read a → a.action ≡ Grant r → r.end.0 ≤ last_day
+ExportsReadAgain = (b : List ℕ) (a : Announcement) (r : Login) → Bytes b → read_announcement b ≡ Some a → a.action ≡ Grant r → r.end.0 ≤ last_day
     → ReadAgain b r
 
 -- "a grant so made": each announcement that import writes is exported as a line that says the same.
@@ -121,11 +120,11 @@ ImportAnswers = (text : List ℕ) (c : Cycle) (d : Day) (out : List ℕ) → Imp
 
 -- Export likewise.
 pub data ExportAnswering (b out : List ℕ) (x : Outcome) : Type 0 where
-  no-grant : ((a : Announcement) (r : Login) → read_announcement b ≡ A.Read a → a.action ≡ Grant r → last_day < r.end.0) → x ≡ refused BadRoster out
+  no-grant : ((a : Announcement) (r : Login) → read_announcement b ≡ Some a → a.action ≡ Grant r → last_day < r.end.0) → x ≡ refused BadRoster out
       → ExportAnswering b out x
-  too_short : (a : Announcement) (r : Login) → read_announcement b ≡ A.Read a → a.action ≡ Grant r → r.end.0 ≤ last_day
+  too_short : (a : Announcement) (r : Login) → read_announcement b ≡ Some a → a.action ≡ Grant r → r.end.0 ≤ last_day
       → length out < length (line_of r) → x ≡ refused NoRosterRoom out → ExportAnswering b out x
-  given : (a : Announcement) (r : Login) → read_announcement b ≡ A.Read a → a.action ≡ Grant r → r.end.0 ≤ last_day
+  given : (a : Announcement) (r : Login) → read_announcement b ≡ Some a → a.action ≡ Grant r → r.end.0 ≤ last_day
       → length (line_of r) ≤ length out → x ≡ record { answer = Ok (length (line_of r)); slice = overwrite (line_of r) out } → ExportAnswering b out x
 
 abbrev pub ExportAnswers : Type 0

@@ -6,7 +6,7 @@ ghost use Rattle.roster.specs.Calls.{give, export_of};
 use crate::written::{DatedRow, LINE_ROOM};
 use binary::put_bytes;
 use calendar::LAST_DAY;
-use records::{Action, AnnouncementRead, read_announcement};
+use records::{Action, read_announcement};
 use refusals::Refusal;
 
 // Writes a row's line to the front of a slice, where it has room, and answers its length: at once, if every line would fit.
@@ -33,7 +33,7 @@ pub fn export_grant(announcement: &[u8], out: &mut [u8]) -> Result<u8, Refusal>
     ensures value { result ≡ (export_of announcement.now out.old).answer }
     ensures out_after { out.new ≡ (export_of announcement.now out.old).slice }
 {
-    let AnnouncementRead::Read(a) = read_announcement(announcement) else {
+    let Some(a) = read_announcement(announcement) else {
         return Err(Refusal::BadRoster);
     };
     let Action::Grant { row } = a.action else {

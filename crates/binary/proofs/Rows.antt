@@ -1,6 +1,6 @@
 -- Loops over rows of one format: what a loop that reads or writes a row in each turn has done after i of n turns.
 use Prim.Native.Nat.{ℕ, zero, suc, ◌+◌, ◌*◌, ◌≤◌, ◌<◌}
-use native.Mathlib.Nat.{suc-mul, zero-mul, add_comm}
+use native.Mathlib.Nat.{suc-mul, zero-mul, add_comm, mul-le-mul_right}
 use native.Mathlib.Numerals.{add-one}
 use native.Mathlib.Omega.{arith}
 use mathlib.Core.Path.{◌≡◌, refl, sym, ap, ◌∙◌}
@@ -15,6 +15,10 @@ use Rattle.lists.proofs.Loops.{all_pass, all-fail, all_end, leading-pass, leadin
 use Rattle.binary.specs.Codec.{Codec, encode_rows, decode_rows}
 use Rattle.binary.specs.Splice.{splice}
 use Rattle.binary.proofs.Splices.{splice-splice, splice-none}
+
+-- row i of n rows of w bytes lies within them, and behind i rows
+pub row_within : (i n w : ℕ) → i < n → i * w + w ≤ n * w
+row_within i n w h = rw suc-mul at (mul-le-mul_right w h)
 
 module _ {A : Type 0} (f : Codec A) where
   -- a row and n rows after it

@@ -4,4 +4,3 @@ pub mod Earlier
 pub mod OldCheckpoints
 pub mod Written
 pub mod Fields
-pub mod Spares

@@ -9,28 +9,13 @@ use Rattle.binary.proofs.Rows.{rows-size}
 use Rattle.state.specs.declared.Day.{Day}
 use Rattle.state.specs.declared.Cycle.{Cycle}
 use Rattle.state.specs.declared.Minima.{Minima}
-use Rattle.state.specs.declared.Seat.{Seat}
-use Rattle.state.specs.declared.Proposal.{Proposal}
-use Rattle.state.specs.declared.Login.{Login}
 use Rattle.state.specs.declared.State.{State}
 use Rattle.state.specs.Limits.{seat_count, proposal_rows, login_rows}
-use Rattle.checkpoint.specs.Layout.{checkpoint_size, seat_size, proposal_size, login_size}
+use Rattle.checkpoint.specs.Layout.{checkpoint_size}
 use Rattle.checkpoint.specs.Format.{seat, proposal, login}
 use Rattle.checkpoint.specs.Code.{time_bytes, parameters_at, parameter_bytes, table_bytes}
 use Rattle.checkpoint.specs.Checkpoint.{checkpoint_bytes}
-
--- Each row is written as the bytes of its format.
-pub seat-size : (x : Seat) → length (seat.encode x) ≡ seat_size
-unfolding to_bytes
-seat-size x = refl
-
-pub proposal-size : (x : Proposal) → length (proposal.encode x) ≡ proposal_size
-unfolding to_bytes
-proposal-size x = refl
-
-pub login-size : (x : Login) → length (login.encode x) ≡ login_size
-unfolding to_bytes
-login-size x = refl
+use Rattle.checkpoint.specs.Stored.{seat_long, proposal_long, login_long}
 
 pub time-size : (c : Cycle) (d : Day) → length (time_bytes c d) ≡ parameters_at
 unfolding time_bytes to_bytes
@@ -51,7 +36,7 @@ pub checkpoint-size : (s : State) → length s.seats ≡ seat_count → length s
     → length (checkpoint_bytes s) ≡ checkpoint_size
 unfolding table_bytes
 checkpoint-size s p q r =
-    let seats = rows-size seat seat-size seat_count s.seats p in
-    let proposals = rows-size proposal proposal-size proposal_rows s.proposals q in
-    let logins = rows-size login login-size login_rows s.logins r in
+    let seats = rows-size seat seat_long seat_count s.seats p in
+    let proposals = rows-size proposal proposal_long proposal_rows s.proposals q in
+    let logins = rows-size login login_long login_rows s.logins r in
     rw (← parts-joined s) (simp (length-append, time-size, parameter-size) (omega arith))

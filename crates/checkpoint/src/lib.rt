@@ -6,6 +6,7 @@ use state::{Cycle, Day, Minima};
 mod check;
 pub mod layout;
 mod read;
+mod rows;
 mod write;
 
 pub use check::{is_checkpoint, is_current};

@@ -1,14 +1,17 @@
 // What the tables have in common: the used rows first, and then unused ones, which are one value.
-ghost use Rattle.std.specs.Prelude.{◌≡◌, ◌-◌, ◌<◌, Bool, not, get_or};
+ghost use Rattle.std.specs.Prelude.{◌≡◌, ◌-◌, ◌<◌, ℕ, Bool, not, get_or};
 ghost use Rattle.lists.specs.Fold.{count};
 ghost use Rattle.lists.specs.Table.{keep, fill};
 ghost use Rattle.state.specs.Rows.{no_proposal, is_proposal, no_login, is_login};
+ghost use Rattle.state.specs.WellFormed.{cycle_of};
 
 use state::{Login, NO_LOGIN, NO_PROPOSAL, Proposal};
 
 pub trait Row: Copy {
-    // Which rows are used, and the unused row.
+    // Which rows are used, what orders them, and the unused row.
     ghost used: { Self → Bool };
+
+    ghost key: { Self → ℕ };
 
     ghost UNUSED: { Self };
 
@@ -16,10 +19,15 @@ pub trait Row: Copy {
 
     fn is_used(self) -> bool
         ensures { result ≡ used self };
+
+    fn key(self) -> u32
+        ensures { result ≡ key self };
 }
 
 impl Row for Proposal {
     ghost used = { is_proposal };
+
+    ghost key = { cycle_of };
 
     ghost UNUSED = { no_proposal };
 
@@ -28,10 +36,16 @@ impl Row for Proposal {
     fn is_used(self) -> bool {
         Proposal::is_used(self)
     }
+
+    fn key(self) -> u32 {
+        self.cycle.0
+    }
 }
 
 impl Row for Login {
     ghost used = { is_login };
+
+    ghost key = { λ x. x.login };
 
     ghost UNUSED = { no_login };
 
@@ -39,6 +53,10 @@ impl Row for Login {
 
     fn is_used(self) -> bool {
         Login::is_used(self)
+    }
+
+    fn key(self) -> u32 {
+        self.login
     }
 }
 

@@ -1,4 +1,3 @@
-use Prim.Native.Nat.{◌-◌}
 use mathlib.Core.Path.{◌≡◌}
 use lib.ListN.{drop}
 use Rattle.lists.specs.Fold.{all}
@@ -10,6 +9,3 @@ use Rattle.checkpoint.proofs.check.are_well_formed_seats.Given as goal
 
 abbrev pub invariant-loop-i : goal.invariant-loop-i
 invariant-loop-i l = all is_well_formed_seat (decode_rows seat seat_count l.table) ≡ all is_well_formed_seat (drop l.i (decode_rows seat seat_count l.table))
-
-abbrev pub decreases-loop-i : goal.decreases-loop-i
-decreases-loop-i l = seat_count - l.i

@@ -16,7 +16,7 @@ loop-i-preserved c =
     let b = c.args.table.now in
     let h = c.loop-i-test.true in
     let k : c.loop-i.i < length (decode_rows seat seat_count b) = rw (length-decode_rows seat seat_count) h in
-    let t = row-test seat seat_count b c.loop-i.i free_seat is_present _ _ h c.seat_at-seat.ensures c.is_present.ensures in
+    let t = row-test seat seat_count b c.loop-i.i free_seat is_present _ _ h c.at.ensures c.is_present.ensures in
     elim c.if-is_present.branch [
       | then-is_present w ↦ omega (arith, count-pass is_present (decode_rows seat seat_count b) c.loop-i.i free_seat k (t ∙ w.if-is_present.true))
       | else-is_present w ↦ omega (arith, count-fail is_present (decode_rows seat seat_count b) c.loop-i.i free_seat k (t ∙ w.if-is_present.false))

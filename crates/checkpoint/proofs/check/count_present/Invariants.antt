@@ -1,4 +1,4 @@
-use Prim.Native.Nat.{◌+◌, ◌-◌, ◌≤◌}
+use Prim.Native.Nat.{◌+◌, ◌≤◌}
 use mathlib.Core.Path.{◌≡◌}
 use lib.ListN.{drop}
 use Rattle.lists.specs.Fold.{count}
@@ -9,8 +9,4 @@ use Rattle.checkpoint.specs.Format.{seat}
 use Rattle.checkpoint.proofs.check.count_present.Given as goal
 
 abbrev pub invariant-loop-i : goal.invariant-loop-i
-invariant-loop-i l = (l.i ≤ seat_count) ×
-    ((l.n ≤ l.i) × (l.n + count is_present (drop l.i (decode_rows seat seat_count l.table)) ≡ count is_present (decode_rows seat seat_count l.table)))
-
-abbrev pub decreases-loop-i : goal.decreases-loop-i
-decreases-loop-i l = seat_count - l.i
+invariant-loop-i l = (l.n ≤ l.i) × (l.n + count is_present (drop l.i (decode_rows seat seat_count l.table)) ≡ count is_present (decode_rows seat seat_count l.table))

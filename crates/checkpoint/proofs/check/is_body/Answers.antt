@@ -1,3 +1,4 @@
+use mathlib.Core.Bool.{and_assoc}
 use Rattle.binary.proofs.Slices.{part-from}
 use Rattle.checkpoint.specs.Layout.{proposals_at, logins_at}
 use Rattle.checkpoint.specs.Code.{is_body}
@@ -11,10 +12,10 @@ returns c =
     let b = a.b.now in
     rw (
       parts_at a.head b,
-      c.is_well_formed-numbers.ensures,
-      c.are_seats-seats.ensures,
-      c.are_proposals-proposals.ensures,
-      c.are_logins-logins.ensures,
+      c.is_well_formed.ensures,
+      c.are_seats.ensures,
+      c.are_proposals.ensures,
+      c.are_logins.ensures,
       part-from proposals_at b,
       part-from logins_at b,
-    )
+    ) (simp and_assoc)

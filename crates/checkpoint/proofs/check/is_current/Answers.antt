@@ -1,32 +1,9 @@
-use native.Mathlib.Omega.{arith}
-use mathlib.Core.Path.{◌≡◌, sym, ◌∙◌}
-use lib.ListN.{length}
 use Rattle.binary.proofs.Slices.{part-from}
-use Rattle.checkpoint.specs.Layout.{checkpoint_size, tables_at}
+use Rattle.checkpoint.specs.Layout.{tables_at}
 use Rattle.checkpoint.specs.Format.{current}
-use Rattle.checkpoint.proofs.Fields.{framed-size, in-parts, decoded-as, head-noticed}
-use borrow.Author.Rules.{rules}
+use Rattle.checkpoint.proofs.Fields.{in-parts, decoded-as, head-noticed}
 use Rattle.checkpoint.proofs.check.is_current.Goals.{Then-is_record}
 use Rattle.checkpoint.proofs.check.is_current.Goals as goal
-
--- A record of this kind has its size.
-sized : (c : Then-is_record) → length c.args.b.now ≡ checkpoint_size
-sized c = framed-size current c.args.b.now (sym c.is_record.ensures ∙ c.if-is_record.true)
-
-pub notices_in-requires : goal.notices_in-requires
-notices_in-requires c = omega (arith, sized (goal.at.notices_in-requires c).Then-is_record)
-
-pub head_in-head-requires : goal.head_in-head-requires
-head_in-head-requires c = omega (arith, sized (goal.at.head_in-head-requires c).Then-is_record)
-
-pub slice_bounds-is_body-count : goal.slice_bounds-is_body-count
-slice_bounds-is_body-count c = omega (arith, sized (goal.at.slice_bounds-is_body-count c).Then-is_record)
-
-pub slice_bounds-is_body-start : goal.slice_bounds-is_body-start
-slice_bounds-is_body-start c = omega (arith, sized (goal.at.slice_bounds-is_body-start c).Then-is_record)
-
-pub is_body-requires : goal.is_body-requires
-is_body-requires c = search (rules, sized (goal.at.is_body-requires c).Then-is_record)
 
 pub returns-then-is_record : goal.returns-then-is_record
 returns-then-is_record c =
@@ -38,9 +15,9 @@ returns-then-is_record c =
       decoded-as current b,
       head-noticed b,
       ← c.notices_in.ensures,
-      ← c.head_in-head.ensures,
+      ← c.head_in.ensures,
       ← part-from tables_at b,
     ) c.is_body.ensures
 
-pub returns : goal.returns
-returns c = rw (in-parts current c.args.b.now, ← c.is_record.ensures, c.if-is_record.false)
+pub returns-else-is_record : goal.returns-else-is_record
+returns-else-is_record c = rw (in-parts current c.args.b.now, ← c.is_record.ensures, c.if-is_record.false)

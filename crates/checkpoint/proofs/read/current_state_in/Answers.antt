@@ -11,6 +11,6 @@ returns c =
       decoded-as current b,
       head-noticed b,
       ← c.notices_in.ensures,
-      ← c.head_in-head.ensures,
+      ← c.head_in.ensures,
       ← part-from tables_at b,
     ) c.state_of.ensures

@@ -2,8 +2,8 @@ use mathlib.Core.Path.{sym}
 use Rattle.checkpoint.proofs.Fields.{standing-at, no-standing}
 use Rattle.checkpoint.proofs.read.standing_in.Goals as goal
 
-pub returns-then-at-ge-SEATS : goal.returns-then-at-ge-SEATS
-returns-then-at-ge-SEATS c = sym (no-standing c.args.b.now c.args.i c.if-at-ge-SEATS.true)
+pub returns-else-at-lt-SEATS : goal.returns-else-at-lt-SEATS
+returns-else-at-lt-SEATS c = sym (no-standing c.args.b.now c.args.i (rw c.from-at.ensures at c.if-at-lt-SEATS.false))
 
-pub returns : goal.returns
-returns c = sym (standing-at c.args.b.now c.args.i c.if-at-ge-SEATS.false)
+pub returns-then-at-lt-SEATS : goal.returns-then-at-lt-SEATS
+returns-then-at-lt-SEATS c = rw c.from-at.ensures (sym (standing-at c.args.b.now c.args.i (rw c.from-at.ensures at c.if-at-lt-SEATS.true)))

@@ -19,8 +19,8 @@ returns-then-b-eq-CHECKPOINT_SIZE c =
     let b = c.args.b.now in
     rw (read-current b (current-by-size b c.requires c.if-b-eq-CHECKPOINT_SIZE.true)) c.current_state_in.ensures
 
-pub head_in-head-requires : goal.head_in-head-requires
-head_in-head-requires c = omega (arith, accepted-size earlier _ (is-earlier (goal.at.head_in-head-requires c).Else-b-eq-CHECKPOINT_SIZE))
+pub head_in-requires : goal.head_in-requires
+head_in-requires c = omega (arith, accepted-size earlier _ (is-earlier (goal.at.head_in-requires c).Else-b-eq-CHECKPOINT_SIZE))
 
 pub slice_bounds-state_of-count : goal.slice_bounds-state_of-count
 slice_bounds-state_of-count c = omega (arith, accepted-size earlier _ (is-earlier (goal.at.slice_bounds-state_of-count c).Else-b-eq-CHECKPOINT_SIZE))
@@ -31,12 +31,12 @@ slice_bounds-state_of-start c = omega (arith, accepted-size earlier _ (is-earlie
 pub state_of-requires : goal.state_of-requires
 state_of-requires c = search (rules, accepted-size earlier _ (is-earlier (goal.at.state_of-requires c).Else-b-eq-CHECKPOINT_SIZE))
 
-pub returns : goal.returns
-returns c =
+pub returns-else-b-eq-CHECKPOINT_SIZE : goal.returns-else-b-eq-CHECKPOINT_SIZE
+returns-else-b-eq-CHECKPOINT_SIZE c =
     let b = c.args.b.now in
     rw (
-      read-earlier b (is-earlier (goal.at.returns c).Else-b-eq-CHECKPOINT_SIZE),
+      read-earlier b (is-earlier (goal.at.returns-else-b-eq-CHECKPOINT_SIZE c).Else-b-eq-CHECKPOINT_SIZE),
       decoded-as earlier b,
-      ← c.head_in-head.ensures,
+      ← c.head_in.ensures,
       ← part-from earlier_tables_at b,
     ) c.state_of.ensures

@@ -6,7 +6,7 @@ returns c =
     let a = c.args in
     rw (
       parts_at a.head a.b.now,
-      ← c.seats_at-seats.ensures,
-      ← c.proposals_at-proposals.ensures,
-      ← c.logins_at-logins.ensures,
+      ← c.rows_at.ensures,
+      ← c.rows_at-2.ensures,
+      ← c.rows_at-logins.ensures,
     )

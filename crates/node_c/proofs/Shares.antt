@@ -22,7 +22,6 @@ use Rattle.node_c.specs.Claims.{AnySharesGiveTheKeyInC, RenewedIsSplitInC}
 -- a split that returned a number of shares gave them
 split-gave : (key : List ℕ) (k n : ℕ) (cs out : List ℕ) (x : Outcome (Result ℕ Refusal)) → SplitAnswering key k n cs out x → value_returned x.answer ≡ 256 * n
     → x.answer ≡ Ok n
-unfolding number_of
 split-gave key k n cs out x (out_of_range r e) h = let z : 26 ≡ 256 * n = ap (λ (y : Outcome (Result ℕ Refusal)). value_returned y.answer) (sym e) ∙ h in absurd (omega arith)
 split-gave key k n cs out x (too_short r f e) h = let z : 28 ≡ 256 * n = ap (λ (y : Outcome (Result ℕ Refusal)). value_returned y.answer) (sym e) ∙ h in absurd (omega arith)
 split-gave key k n cs out x (given r a b d e) h = ap (λ (y : Outcome (Result ℕ Refusal)). y.answer) e

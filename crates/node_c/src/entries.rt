@@ -66,19 +66,19 @@ fn hand_out(state: State, own: Own, counts: AttemptCounts, out: &mut [u8]) -> u3
     0
 }
 
-#[tactic(auto, unfolding(crate::specs::Calls::node_start))]
 pub fn node_start(checkpoint: &[u8], start: &[u8], out: &mut [u8]) -> u32
     ensures value { result ≡ (node_start checkpoint.now start.now out.old).number }
     ensures out_after { out.new ≡ (node_start checkpoint.now start.now out.old).slice }
 {
     let reply = Node::start(checkpoint, start);
-    if reply.answer.is_ok() {
-        return hand_out(reply.node.state, reply.node.own, reply.node.counts, out);
+    let number = number_in(reply.answer);
+    if number == 0 {
+        let node = reply.node;
+        return hand_out(node.state, node.own, node.counts, out);
     }
-    try_room(IMAGE_SIZE <= out.len(), number_in(reply.answer))
+    try_room(IMAGE_SIZE <= out.len(), number)
 }
 
-#[tactic(auto, unfolding(crate::specs::Calls::node_deliver))]
 pub fn node_deliver(image: &[u8], announcement: &[u8], sheet: &[u8], out: &mut [u8]) -> u32
     ensures value { result ≡ (node_deliver image.now announcement.now sheet.now out.old).number }
     ensures out_after { out.new ≡ (node_deliver image.now announcement.now sheet.now out.old).slice }
@@ -100,7 +100,6 @@ pub fn node_deliver(image: &[u8], announcement: &[u8], sheet: &[u8], out: &mut [
     )
 }
 
-#[tactic(auto, unfolding(crate::specs::Calls::node_query))]
 pub fn node_query(image: &[u8], query: &[u8], out: &mut [u8]) -> u32
     ensures value { result ≡ (node_query image.now query.now out.old).number }
     ensures out_after { out.new ≡ (node_query image.now query.now out.old).slice }
@@ -108,18 +107,13 @@ pub fn node_query(image: &[u8], query: &[u8], out: &mut [u8]) -> u32
     if !is_image(image) {
         return MALFORMED;
     }
-    let reply = node_in(image).query(query);
+    let held = node_in(image);
+    let reply = held.query(query);
     let k = number_in(reply.answer);
-    hand_on(
-        &image[0..CHECKPOINT_SIZE],
-        reply.node.own,
-        reply.node.counts,
-        k,
-        out,
-    )
+    let node = reply.node;
+    hand_on(&image[0..CHECKPOINT_SIZE], node.own, node.counts, k, out)
 }
 
-#[tactic(auto, unfolding(crate::specs::Calls::node_checkpoint))]
 pub fn node_checkpoint(image: &[u8], out: &mut [u8]) -> u32
     ensures value { result ≡ (node_checkpoint image.now out.old).number }
     ensures out_after { out.new ≡ (node_checkpoint image.now out.old).slice }
@@ -131,7 +125,6 @@ pub fn node_checkpoint(image: &[u8], out: &mut [u8]) -> u32
 }
 
 // The lines in the bits above the answer.
-#[tactic(auto, unfolding(crate::specs::Calls::node_page))]
 pub fn node_page(image: &[u8], day: u32, out: &mut [u8]) -> u32
     ensures value { result ≡ (node_page image.now day out.old).number }
     ensures out_after { out.new ≡ (node_page image.now day out.old).slice }

@@ -17,7 +17,8 @@ use Rattle.state.specs.Time.{last_cycle, cycles_since}
 use Rattle.records.specs.declared.Announcement.{Announcement}
 use Rattle.records.specs.declared.Action.{Action}
 use Rattle.records.specs.declared.Action.TheVariants.{Propose, Cancel, Presents, Certify, Minima, Remove, Rejoin, Grant, End}
-use Rattle.std.specs.Prelude.{Option, Some, None}
+use Rattle.std.specs.declared.option.Option as Rust
+use Rattle.std.specs.Prelude.{Some, None}
 use Rattle.records.specs.Announcement.{read_announcement}
 use Rattle.roster.specs.Csv.{lines_in}
 use Rattle.roster.specs.Roster.{rows_in, roster_in, line_of}
@@ -79,7 +80,7 @@ module _ (b out : List ℕ) where
   same-grant : (a : Announcement) (r : Login) → read_announcement b ≡ Some a → a.action ≡ Grant r → granted_by (read_announcement b) ≡ some r
   same-grant a r e g = rw (e, g)
 
-  told : (r : Login) (x : Option Announcement) → read_announcement b ≡ x → granted_by x ≡ some r → Exports (export_of b out)
+  told : (r : Login) (x : Rust.Option Announcement) → read_announcement b ≡ x → granted_by x ≡ some r → Exports (export_of b out)
   unfolding export_of exported bind
   told r None e g = clash (cc)
   told r (Some a) e g =

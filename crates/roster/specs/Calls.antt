@@ -1,5 +1,6 @@
 -- The two calls: what each answers, and what its output slice then holds. "24 comes before 25."
-use Rattle.std.specs.Prelude.{ℕ, List, [], ◌∷◌, ◌++◌, cond, leb, length, Result, Ok, Err, Option, Some, None}
+use Rattle.std.specs.Prelude.{ℕ, List, [], ◌∷◌, ◌++◌, cond, leb, length, Result, Ok, Err, Some, None}
+use Rattle.std.specs.declared.option.Option as Rust
 use Rattle.std.proofs.Math.Option.{Option, none, some, bind}
 use Rattle.refusals.specs.declared.Refusal.{Refusal}
 use Rattle.refusals.specs.declared.Refusal.TheVariants.{BadRoster, NoRosterRoom}
@@ -68,7 +69,7 @@ granted (Rejoin i life) = none
 granted (Grant r) = some r
 granted (End login) = none
 
-abbrev pub granted_by : Option Announcement → Option Login
+abbrev pub granted_by : Rust.Option Announcement → Option Login
 granted_by None = none
 granted_by (Some a) = granted a.action
 

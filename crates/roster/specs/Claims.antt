@@ -1,5 +1,5 @@
 -- What an office can rely on in its rosters.
-use Rattle.std.specs.Prelude.{◌≡◌, Ok, Bool, ℕ, ◌+◌, ◌*◌, ◌^◌, ◌≤◌, ◌<◌, length, get_or, take, drop, Option, Some}
+use Rattle.std.specs.Prelude.{◌≡◌, Ok, Bool, ℕ, ◌+◌, ◌*◌, ◌^◌, ◌≤◌, ◌<◌, length, get_or, take, drop, Some}
 use mathlib.Core.List.{List, [], ◌∷◌, ◌++◌, Memᴰ}
 use Rattle.std.proofs.Math.Option.{Option, none, some, bind}
 use Rattle.refusals.specs.declared.Refusal.TheVariants.{BadRoster, NoRosterRoom}

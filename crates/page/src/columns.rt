@@ -15,19 +15,12 @@ use state::{Day, is_held};
 // The width of the columns of the login and of the end date.
 const COLUMN: usize = 10;
 
-const SPACE: u8 = 32;
-
-const HYPHEN: u8 = 45;
-
-// The letter of right 0.
-const LETTER: u8 = 65;
-
 pub fn put_login(out: &mut [u8], at: usize, login: u32)
     requires { at + (login_column then space).width ≤ length out.old }
     ensures { out.new ≡ splice out.old at ((login_column then space).encode login) }
 {
-    put_aligned(out, at, COLUMN, login as u64);
-    put_u8(out, at + COLUMN, SPACE);
+    put_aligned(out, at, COLUMN, u64::from(login));
+    put_u8(out, at + COLUMN, b' ');
 }
 
 // The date, or hyphens where it is after 2099-12-31.
@@ -37,10 +30,10 @@ pub fn put_end(out: &mut [u8], at: usize, end: Day)
 {
     if LAST_DAY < end.0 {
         put_bytes(out, at, b"---------- ");
-        return;
+    } else {
+        put_day(out, at, end.0);
+        put_u8(out, at + COLUMN, b' ');
     }
-    put_day(out, at, end.0);
-    put_u8(out, at + COLUMN, SPACE);
 }
 
 // The letter of a right that is held, else a hyphen.
@@ -49,9 +42,9 @@ fn place_of(rights: u16, right: u8) -> u8
     ensures { result ≡ place right rights }
 {
     if is_held(rights, right) {
-        LETTER + right
+        b'A' + right
     } else {
-        HYPHEN
+        b'-'
     }
 }
 
@@ -59,28 +52,20 @@ pub fn put_rights(out: &mut [u8], at: usize, rights: u16)
     requires { at + (rights_column then space).width ≤ length out.old }
     ensures { out.new ≡ splice out.old at ((rights_column then space).encode rights) }
 {
-    let mut i: u8 = 0;
-    while i < RIGHTS {
-        let to = at + (i as usize);
-        out[to] = place_of(rights, i);
-        i += 1;
+    for i in 0..RIGHTS {
+        out[at + usize::from(i)] = place_of(rights, i);
     }
-    put_u8(out, at + (RIGHTS as usize), SPACE);
+    put_u8(out, at + usize::from(RIGHTS), b' ');
 }
 
 pub fn put_word(out: &mut [u8], at: usize, word: Word)
     requires { at + (word_column then line_feed).width ≤ length out.old }
     ensures { out.new ≡ splice out.old at ((word_column then line_feed).encode word) }
 {
-    match word {
-        Word::Open => {
-            put_bytes(out, at, b"open   \n");
-        }
-        Word::Ended => {
-            put_bytes(out, at, b"ended  \n");
-        }
-        Word::Silent => {
-            put_bytes(out, at, b"silent \n");
-        }
-    }
+    let text = match word {
+        Word::Open => b"open   \n",
+        Word::Ended => b"ended  \n",
+        Word::Silent => b"silent \n",
+    };
+    put_bytes(out, at, text);
 }

@@ -8,7 +8,7 @@ mod lines;
 pub use lines::write_page;
 
 // What a line says of its login on a day.
-#[derive(Clone, Copy)]
+#[derive(Clone, Copy, Debug, PartialEq, Eq)]
 pub enum Word {
     Open,
     Ended,

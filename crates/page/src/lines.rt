@@ -19,12 +19,12 @@ fn word_of(silent: bool, t: Day, row: Login) -> Word
     ensures { result ≡ word_of silent t row }
 {
     if silent {
-        return Word::Silent;
+        Word::Silent
+    } else if row.is_ended(t) {
+        Word::Ended
+    } else {
+        Word::Open
     }
-    if row.is_ended(t) {
-        return Word::Ended;
-    }
-    Word::Open
 }
 
 fn put_line(out: &mut [u8], at: usize, silent: bool, t: Day, row: Login)
@@ -34,8 +34,7 @@ fn put_line(out: &mut [u8], at: usize, silent: bool, t: Day, row: Login)
     put_login(out, at, row.login);
     put_end(out, at + END_AT, row.end);
     put_rights(out, at + RIGHTS_AT, row.rights);
-    let word = word_of(silent, t, row);
-    put_word(out, at + WORD_AT, word);
+    put_word(out, at + WORD_AT, word_of(silent, t, row));
 }
 
 // The line of a row that is used, and nothing for another; answers where it ends. A row in memory has its numbers within their widths, so
@@ -46,22 +45,21 @@ fn put_row(out: &mut [u8], at: usize, silent: bool, t: Day, row: Login) -> usize
     ensures value_2 { result ≡ at + length (lines_of silent t (row ∷ [])) }
     ensures out_after { out.new ≡ splice out.old at (lines_of silent t (row ∷ [])) }
 {
-    if !row.is_used() {
-        return at;
+    if row.is_used() {
+        put_line(out, at, silent, t, row);
+        at + LINE_SIZE
+    } else {
+        at
     }
-    put_line(out, at, silent, t, row);
-    at + LINE_SIZE
 }
 
 fn put_rows(out: &mut [u8], silent: bool, t: Day, rows: [Login; LOGIN_ROWS])
     requires { line_size * count is_login rows ≤ length out.old }
     ensures { out.new ≡ overwrite (lines_of silent t rows) out.old }
 {
-    let mut at: usize = 0;
-    let mut i: usize = 0;
-    while i < LOGIN_ROWS {
-        at = put_row(out, at, silent, t, rows[i]);
-        i += 1;
+    let mut at = 0;
+    for row in rows {
+        at = put_row(out, at, silent, t, row);
     }
 }
 
@@ -70,10 +68,6 @@ pub fn write_page(s: State, given: Day, out: &mut [u8])
     requires { line_size * line_count s ≤ length out.old }
     ensures { out.new ≡ overwrite (page_text s given) out.old }
 {
-    let agreed = s.day;
-    let minima = s.minima;
-    let logins = s.logins;
-    let t = given.later(agreed);
-    let silent = is_silent(agreed, minima.silence, t);
-    put_rows(out, silent, t, logins);
+    let t = given.max(s.day);
+    put_rows(out, is_silent(s.day, s.minima.silence, t), t, s.logins);
 }

@@ -2,17 +2,13 @@ use Prim.Native.Nat.{ℕ, ◌+◌}
 use native.Mathlib.Omega.{arith}
 use mathlib.Core.Path.{ap}
 use mathlib.Core.Option.{some}
-use borrow.Author.Tests.{lt-ltb, le-ltb}
+use borrow.Author.Tests.{le-ltb}
 use Rattle.binary.proofs.Splices.{then-put}
 use Rattle.page.proofs.ReadBack.{end_back}
 use Rattle.page.proofs.columns.put_end.Goals as goal
 
-pub returns-then-end-gt-LAST_DAY : goal.returns-then-end-gt-LAST_DAY
-returns-then-end-gt-LAST_DAY c =
-    rw (lt-ltb _ _ c.if-end-gt-LAST_DAY.true) c.put_bytes.ensures.out_after
-
-pub returns : goal.returns
-returns c =
+pub returns-else-end-gt-LAST_DAY : goal.returns-else-end-gt-LAST_DAY
+returns-else-end-gt-LAST_DAY c =
     let no = c.if-end-gt-LAST_DAY.false in
     let a = c.args in
     let size = end_back.long (some a.end.0) (omega arith) in

@@ -9,4 +9,4 @@ pub returns : goal.returns
 returns c =
     let a = c.args in
     let size = login-back.long a.login (omega arith) in
-    then-put _ _ _ _ _ a.at _ c.put_u8.ensures c.put_aligned.ensures (ap (λ (n : ℕ). a.at + n) size) (omega arith)
+    then-put _ _ _ _ _ a.at _ c.put_u8.ensures (rw c.from.ensures at c.put_aligned.ensures) (ap (λ (n : ℕ). a.at + n) size) (omega arith)

@@ -14,7 +14,7 @@ use Rattle.binary.specs.Number.{overwrite}
 use Rattle.state.specs.declared.Day.{Day}
 use Rattle.state.specs.Time.{cycle, day}
 use Rattle.records.specs.declared.Query.{Query}
-use Rattle.std.specs.Prelude.{Option, Some}
+use Rattle.std.specs.Prelude.{Some}
 use Rattle.records.specs.StartQuery.{read_query}
 use Rattle.roster.proofs.Outcomes.{import-answers, export-answers}
 use Rattle.shares.proofs.Answering.{split-answers, merge-answers, add-answers}

@@ -1,5 +1,5 @@
 -- What an office can rely on in an access page. No claim asks for a running or an unlocked node, but where it speaks of a query.
-use Rattle.std.specs.Prelude.{◌≡◌, ◌≢◌, true, ℕ, ◌≤◌, ◌<◌, Option, Some}
+use Rattle.std.specs.Prelude.{◌≡◌, ◌≢◌, true, ℕ, ◌≤◌, ◌<◌, Some}
 use mathlib.Core.List.{List, map, Memᴰ}
 use Rattle.std.proofs.Math.Option.{Option}
 use Rattle.binary.specs.Codec.{decode_rows}

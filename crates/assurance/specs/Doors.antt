@@ -1,7 +1,8 @@
 -- "Two runs that differ only in the queries at other doors give one door the same answers and leave it the same count.": for lists of calls at any
 -- number of hosts, by value and through C, from empty hosts. And what locks a door, and what opens all four.
-use Rattle.std.specs.Prelude.{◌≡◌, ◌≢◌, Bool, false, cond, not, ◌&&◌, ℕ, ◌≤◌, ◌<◌, eqb, length, Option, Some, None}
+use Rattle.std.specs.Prelude.{◌≡◌, ◌≢◌, Bool, false, cond, not, ◌&&◌, ℕ, ◌≤◌, ◌<◌, eqb, length, Some, None}
 use mathlib.Core.List.{List, [], ◌∷◌, Memᴰ}
+use Rattle.std.specs.declared.option.Option as Rust
 use Rattle.std.proofs.Math.Option.{Option, none, some}
 use Rattle.lists.specs.Table.{keep}
 use Rattle.records.specs.declared.Query.{Query}
@@ -18,7 +19,7 @@ use Rattle.assurance.specs.Refusals.{AddsMiss}
 -- ---- the calls that concern a door
 
 -- a well-formed query at another door than d; a malformed one is at no door
-abbrev pub is_elsewhere : ℕ → Option Query → Bool
+abbrev pub is_elsewhere : ℕ → Rust.Option Query → Bool
 is_elsewhere d None = false
 is_elsewhere d (Some q) = not (eqb q.door d)
 

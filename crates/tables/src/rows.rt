@@ -60,12 +60,16 @@ impl Row for Login {
     }
 }
 
-// The number of used rows.
+// The number of used rows. A sum, and no count of a filter: that has a branch for each row, and a checkpoint takes a quarter longer by it.
 pub fn count_used<T: Row, const N: usize>(rows: [T; N]) -> u8
     requires { N < 256 }
     ensures { result ≡ count T.used rows }
 {
-    rows.iter().filter(|row| row.is_used()).count() as u8
+    let mut n: u8 = 0;
+    for row in &rows {
+        n += u8::from(row.is_used());
+    }
+    n
 }
 
 // Whether the last row is used.

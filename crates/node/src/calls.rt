@@ -1,6 +1,5 @@
 // The calls, by value: each consumes the node and hands back the next one with its answer.
-ghost use Rattle.std.specs.Prelude.{◌≡◌, length};
-ghost use Rattle.records.specs.Layout.{announcement_size};
+ghost use Rattle.std.specs.Prelude.{◌≡◌};
 ghost use Rattle.node.specs.Code.{reply, start_answer, deliver_answer, query_answer, checkpoint_answer, page_answer};
 ghost use Rattle.node.specs.Deliver.{leaves, votes, deliver_of};
 ghost use Rattle.node.specs.Query.{query_of};
@@ -16,6 +15,7 @@ use checkpoint::layout::CHECKPOINT_SIZE;
 use checkpoint::{is_checkpoint, state_in, write_checkpoint};
 use page::layout::LINE_SIZE;
 use page::write_page;
+use records::layout::ANNOUNCEMENT_SIZE;
 use records::{Start, is_sheet, read_announcement, read_start};
 use refusals::Refusal;
 use rules::find;
@@ -42,8 +42,7 @@ fn leave(state: State, own: Own) -> Reply<Delivered>
     }
 }
 
-fn vote_for(n: Node, announcement: &[u8]) -> Reply<Delivered>
-    requires { length announcement.now ≡ announcement_size }
+fn vote_for(n: Node, announcement: &[u8; ANNOUNCEMENT_SIZE]) -> Reply<Delivered>
     ensures { reply deliver_answer result ≡ votes n announcement.now }
 {
     let own = with_vote(n.own, announcement);
@@ -132,7 +131,10 @@ impl Node {
     pub fn deliver(self, announcement: &[u8], sheet: &[u8]) -> Reply<Delivered>
         ensures { reply deliver_answer result ≡ deliver_of self announcement.now sheet.now }
     {
-        let Some(a) = read_announcement(announcement) else {
+        let Some(bytes) = announcement.as_array::<ANNOUNCEMENT_SIZE>() else {
+            return self.refused(Refusal::Malformed);
+        };
+        let Some(a) = read_announcement(bytes) else {
             return self.refused(Refusal::Malformed);
         };
         if !is_sheet(sheet) {
@@ -152,10 +154,10 @@ impl Node {
             let next = advance(seen, found, a);
             return leave(next, self.own);
         }
-        if let Err(refusal) = vote_refusal(held, self.own, announcement) {
+        if let Err(refusal) = vote_refusal(held, self.own, bytes) {
             return self.refused(refusal);
         }
-        vote_for(self, announcement)
+        vote_for(self, bytes)
     }
 
     // May the login use the right on the day, at the door?

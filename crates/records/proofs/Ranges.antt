@@ -1,7 +1,7 @@
 -- An announcement or a start record that is read is within its ranges.
 use Prim.Native.Nat.{ℕ, ◌^◌, ◌<◌}
 use native.Mathlib.Omega.{arith}
-use mathlib.Core.Path.{◌≡◌, subst}
+use mathlib.Core.Path.{◌≡◌, subst, refl}
 use mathlib.Core.Bool.{Bool, true, ◌&&◌, and-eq-true_iff}
 use mathlib.Core.List.{List}
 use lib.Dec.{eqb, ltb}
@@ -100,6 +100,13 @@ unfolding read_announcement
 announcement-size b a =
     cond_cases (λ (r : Option Announcement). r ≡ Some a → length b ≡ announcement_size) (is_framed announcement_length b)
     (λ f e. framed-length announcement_length b f) (λ f e. clash (cc))
+
+-- Bytes of another length are none.
+pub other-size : (b : List ℕ) → (length b ≡ announcement_size → ⊥) → read_announcement b ≡ None
+unfolding read_announcement
+other-size b h =
+    cond_cases (λ (r : Option Announcement). r ≡ None) (is_framed announcement_length b)
+    (λ f. absurd (h (framed-length announcement_length b f))) (λ f. refl)
 
 pub announcements-in-range : AnnouncementsInRange
 unfolding read_announcement InRange

@@ -13,32 +13,28 @@ impl Action {
         ensures { result ≡ kind_of self }
     {
         match self {
-            Action::Propose { subject } => PROPOSE,
-            Action::Cancel { cycle } => CANCEL,
-            Action::Presents { seat, flag } => PRESENTS,
-            Action::Certify { seat, life } => CERTIFY,
-            Action::Minima { minima } => MINIMA,
-            Action::Remove { seat } => REMOVE,
-            Action::Rejoin { seat, life } => REJOIN,
-            Action::Grant { row } => GRANT,
-            Action::End { login } => END,
+            Action::Propose { .. } => PROPOSE,
+            Action::Cancel { .. } => CANCEL,
+            Action::Presents { .. } => PRESENTS,
+            Action::Certify { .. } => CERTIFY,
+            Action::Minima { .. } => MINIMA,
+            Action::Remove { .. } => REMOVE,
+            Action::Rejoin { .. } => REJOIN,
+            Action::Grant { .. } => GRANT,
+            Action::End { .. } => END,
         }
     }
 
-    // That of kind 0 where the action needs no notice.
+    // That of kind 0 where the action needs no notice. No Option: the definitions look for a proposal of this subject too, and find none.
     pub fn subject(self) -> Subject
         ensures { result ≡ subject_of self }
     {
         match self {
-            Action::Propose { subject } => NO_SUBJECT,
-            Action::Cancel { cycle } => NO_SUBJECT,
-            Action::Presents { seat, flag } => NO_SUBJECT,
             Action::Certify { seat, life } => certifies(seat, life),
             Action::Minima { minima } => sets_minima(minima),
             Action::Remove { seat } => removes(seat),
             Action::Rejoin { seat, life } => rejoins(seat, life),
-            Action::Grant { row } => NO_SUBJECT,
-            Action::End { login } => NO_SUBJECT,
+            _ => NO_SUBJECT,
         }
     }
 
@@ -47,15 +43,11 @@ impl Action {
         ensures { result ≡ seat_of self }
     {
         match self {
-            Action::Propose { subject } => SEAT_NUMBERS,
-            Action::Cancel { cycle } => SEAT_NUMBERS,
-            Action::Presents { seat, flag } => seat,
-            Action::Certify { seat, life } => seat,
-            Action::Minima { minima } => SEAT_NUMBERS,
+            Action::Presents { seat, .. } => seat,
+            Action::Certify { seat, .. } => seat,
             Action::Remove { seat } => seat,
-            Action::Rejoin { seat, life } => seat,
-            Action::Grant { row } => SEAT_NUMBERS,
-            Action::End { login } => SEAT_NUMBERS,
+            Action::Rejoin { seat, .. } => seat,
+            _ => SEAT_NUMBERS,
         }
     }
 }

@@ -1,9 +1,8 @@
 // Reading an announcement: its frame, its kind, and the arguments of that kind from index 12 on.
-ghost use Rattle.std.specs.Prelude.{◌≡◌, ◌≤◌, length};
-ghost use Rattle.records.specs.Layout.{announcement_size};
+ghost use Rattle.std.specs.Prelude.{◌≡◌};
 ghost use Rattle.records.specs.Announcement as spec;
 
-use super::layout::ANNOUNCEMENT_LENGTH;
+use super::layout::{ANNOUNCEMENT_LENGTH, ANNOUNCEMENT_SIZE};
 use super::{Action, Announcement};
 use binary::{is_framed, is_zero_from, u16_at, u32_at, u64_at};
 use state::kinds::{CANCEL, CERTIFY, END, GRANT, MINIMA, PRESENTS, PROPOSE, REJOIN, REMOVE};
@@ -11,8 +10,8 @@ use state::limits::SEAT_NUMBERS;
 use state::{Cycle, Day, Login, Minima, Notices, Subject};
 
 // The announcement of this action, with the record's cycle and day, where its arguments are well formed.
-fn announcing(b: &[u8], ok: bool, action: Action) -> Option<Announcement>
-    requires { announcement_size ≤ length b.now }
+#[tactic(auto, unfolding(crate::specs::Announcement::announcing))]
+fn announcing(b: &[u8; ANNOUNCEMENT_SIZE], ok: bool, action: Action) -> Option<Announcement>
     ensures { result ≡ spec.announcing b.now ok action }
 {
     if ok {
@@ -27,8 +26,8 @@ fn announcing(b: &[u8], ok: bool, action: Action) -> Option<Announcement>
 }
 
 // One function for each kind: its arguments, their ranges, and that the unused bytes are zero.
-fn read_propose(b: &[u8]) -> Option<Announcement>
-    requires { announcement_size ≤ length b.now }
+#[tactic(auto, unfolding(crate::specs::Announcement::read_propose))]
+fn read_propose(b: &[u8; ANNOUNCEMENT_SIZE]) -> Option<Announcement>
     ensures { result ≡ spec.read_propose b.now }
 {
     let subject = Subject {
@@ -39,16 +38,16 @@ fn read_propose(b: &[u8]) -> Option<Announcement>
     announcing(b, ok, Action::Propose { subject })
 }
 
-fn read_cancel(b: &[u8]) -> Option<Announcement>
-    requires { announcement_size ≤ length b.now }
+#[tactic(auto, unfolding(crate::specs::Announcement::read_cancel))]
+fn read_cancel(b: &[u8; ANNOUNCEMENT_SIZE]) -> Option<Announcement>
     ensures { result ≡ spec.read_cancel b.now }
 {
     let cycle = Cycle(u32_at(b, 12));
     announcing(b, is_zero_from(16, b), Action::Cancel { cycle })
 }
 
-fn read_presents(b: &[u8]) -> Option<Announcement>
-    requires { announcement_size ≤ length b.now }
+#[tactic(auto, unfolding(crate::specs::Announcement::read_presents))]
+fn read_presents(b: &[u8; ANNOUNCEMENT_SIZE]) -> Option<Announcement>
     ensures { result ≡ spec.read_presents b.now }
 {
     let seat = b[12];
@@ -64,8 +63,8 @@ fn read_presents(b: &[u8]) -> Option<Announcement>
     )
 }
 
-fn read_certify(b: &[u8]) -> Option<Announcement>
-    requires { announcement_size ≤ length b.now }
+#[tactic(auto, unfolding(crate::specs::Announcement::read_certify))]
+fn read_certify(b: &[u8; ANNOUNCEMENT_SIZE]) -> Option<Announcement>
     ensures { result ≡ spec.read_certify b.now }
 {
     let seat = b[12];
@@ -74,8 +73,8 @@ fn read_certify(b: &[u8]) -> Option<Announcement>
     announcing(b, ok, Action::Certify { seat, life })
 }
 
-fn read_minima(b: &[u8]) -> Option<Announcement>
-    requires { announcement_size ≤ length b.now }
+#[tactic(auto, unfolding(crate::specs::Announcement::read_minima))]
+fn read_minima(b: &[u8; ANNOUNCEMENT_SIZE]) -> Option<Announcement>
     ensures { result ≡ spec.read_minima b.now }
 {
     let minima = Minima {
@@ -91,8 +90,8 @@ fn read_minima(b: &[u8]) -> Option<Announcement>
     announcing(b, ok, Action::Minima { minima })
 }
 
-fn read_remove(b: &[u8]) -> Option<Announcement>
-    requires { announcement_size ≤ length b.now }
+#[tactic(auto, unfolding(crate::specs::Announcement::read_remove))]
+fn read_remove(b: &[u8; ANNOUNCEMENT_SIZE]) -> Option<Announcement>
     ensures { result ≡ spec.read_remove b.now }
 {
     let seat = b[12];
@@ -100,8 +99,8 @@ fn read_remove(b: &[u8]) -> Option<Announcement>
     announcing(b, ok, Action::Remove { seat })
 }
 
-fn read_rejoin(b: &[u8]) -> Option<Announcement>
-    requires { announcement_size ≤ length b.now }
+#[tactic(auto, unfolding(crate::specs::Announcement::read_rejoin))]
+fn read_rejoin(b: &[u8; ANNOUNCEMENT_SIZE]) -> Option<Announcement>
     ensures { result ≡ spec.read_rejoin b.now }
 {
     let seat = b[12];
@@ -110,8 +109,8 @@ fn read_rejoin(b: &[u8]) -> Option<Announcement>
     announcing(b, ok, Action::Rejoin { seat, life })
 }
 
-fn read_grant(b: &[u8]) -> Option<Announcement>
-    requires { announcement_size ≤ length b.now }
+#[tactic(auto, unfolding(crate::specs::Announcement::read_grant))]
+fn read_grant(b: &[u8; ANNOUNCEMENT_SIZE]) -> Option<Announcement>
     ensures { result ≡ spec.read_grant b.now }
 {
     let login = u32_at(b, 12);
@@ -122,8 +121,8 @@ fn read_grant(b: &[u8]) -> Option<Announcement>
     announcing(b, ok, Action::Grant { row })
 }
 
-fn read_end(b: &[u8]) -> Option<Announcement>
-    requires { announcement_size ≤ length b.now }
+#[tactic(auto, unfolding(crate::specs::Announcement::read_end))]
+fn read_end(b: &[u8; ANNOUNCEMENT_SIZE]) -> Option<Announcement>
     ensures { result ≡ spec.read_end b.now }
 {
     let login = u32_at(b, 12);
@@ -131,8 +130,8 @@ fn read_end(b: &[u8]) -> Option<Announcement>
 }
 
 // The arguments of each kind; other kinds are malformed.
-fn read_kind(kind: u16, b: &[u8]) -> Option<Announcement>
-    requires { announcement_size ≤ length b.now }
+#[tactic(auto, unfolding(crate::specs::Announcement::read_kind))]
+fn read_kind(kind: u16, b: &[u8; ANNOUNCEMENT_SIZE]) -> Option<Announcement>
     ensures { result ≡ spec.read_kind kind b.now }
 {
     match kind {
@@ -150,11 +149,13 @@ fn read_kind(kind: u16, b: &[u8]) -> Option<Announcement>
 }
 
 // Reads bytes that are exactly one well-formed announcement.
+#[tactic(auto, unfolding(crate::specs::Announcement::read_announcement))]
 pub fn read_announcement(b: &[u8]) -> Option<Announcement>
     ensures { result ≡ spec.read_announcement b.now }
 {
-    if is_framed(b, ANNOUNCEMENT_LENGTH) {
-        read_kind(u16_at(b, 2), b)
+    let bytes = b.as_array::<ANNOUNCEMENT_SIZE>()?;
+    if is_framed(bytes, ANNOUNCEMENT_LENGTH) {
+        read_kind(u16_at(bytes, 2), bytes)
     } else {
         None
     }

@@ -28,6 +28,7 @@ fn are_rows(b: &[u8]) -> bool
 }
 
 // The bytes are one well-formed sheet.
+#[tactic(auto, unfolding(crate::specs::Sheet::is_sheet))]
 pub fn is_sheet(b: &[u8]) -> bool
     ensures { result ≡ is_sheet b.now }
 {

@@ -11,6 +11,7 @@ use state::Day;
 use state::limits::{RIGHTS, SEAT_NUMBERS};
 
 // Reads bytes that are exactly one well-formed start record.
+#[tactic(auto, unfolding(crate::specs::StartQuery::read_start))]
 pub fn read_start(b: &[u8]) -> Option<Start>
     ensures { result ≡ read_start b.now }
 {
@@ -29,6 +30,7 @@ pub fn read_start(b: &[u8]) -> Option<Start>
 }
 
 // Reads bytes that are exactly one well-formed query. One that names no door is at door 0.
+#[tactic(auto, unfolding(crate::specs::StartQuery::read_query))]
 pub fn read_query(b: &[u8]) -> Option<Query>
     ensures { result ≡ read_query b.now }
 {

@@ -1,6 +1,5 @@
 // The lowest refusal of the table of no that applies to a call.
-ghost use Rattle.std.specs.Prelude.{◌≡◌, true, length};
-ghost use Rattle.records.specs.Layout.{announcement_size};
+ghost use Rattle.std.specs.Prelude.{◌≡◌, true};
 ghost use Rattle.records.specs.Sheet.{is_sheet};
 ghost use Rattle.refusals.specs.Refusals.{number_in};
 ghost use Rattle.rules.specs.Code.{Finds};
@@ -13,7 +12,7 @@ ghost use Rattle.verdicts.specs.Verdicts.{deliver_refusal, shows_quorum, vote_re
 use crate::attempts::misses_at;
 use crate::own_part::{can_vote, held_seat, is_halted, voted_otherwise};
 use crate::{AttemptCounts, MOST_MISSES, Own};
-use records::layout::{MASK1_AT, MASK2_AT};
+use records::layout::{ANNOUNCEMENT_SIZE, MASK1_AT, MASK2_AT};
 use records::{Announcement, Query, Start, reaches_quorum};
 use refusals::{Refusal, refuse_if};
 use rules::{Found, action_refusal, time_refusal};
@@ -53,8 +52,11 @@ pub fn shows_quorum(s: State, present: u8, sheet: &[u8]) -> bool
 
 // Rules 15 and 16, at a node of this seat.
 #[tactic(auto, unfolding(crate::specs::Verdicts::vote_refusal))]
-pub fn vote_refusal(held: Seat, own: Own, announcement: &[u8]) -> Result<(), Refusal>
-    requires { length announcement.now ≡ announcement_size }
+pub fn vote_refusal(
+    held: Seat,
+    own: Own,
+    announcement: &[u8; ANNOUNCEMENT_SIZE],
+) -> Result<(), Refusal>
     ensures { (s : State) → held ≡ held_seat s own → number_in result ≡ vote_refusal s own announcement.now }
 {
     refuse_if(!can_vote(held, own), Refusal::CannotVote)?;

@@ -1,6 +1,5 @@
 // The own part of a node: its seat, its vote.
-ghost use Rattle.std.specs.Prelude.{◌≡◌, true, ◌&&◌, eqb, length};
-ghost use Rattle.records.specs.Layout.{announcement_size};
+ghost use Rattle.std.specs.Prelude.{◌≡◌, ◌&&◌, eqb};
 ghost use Rattle.state.specs.Seats.{retired, is_present};
 ghost use Rattle.verdicts.specs.Own.{held_seat, voted_otherwise, own_afresh, with_vote};
 
@@ -31,11 +30,10 @@ pub fn can_vote(held: Seat, own: Own) -> bool
 }
 
 // Whether the node voted for other bytes in this cycle.
-pub fn voted_otherwise(own: Own, announcement: &[u8]) -> bool
-    requires { length announcement.now ≡ announcement_size }
+pub fn voted_otherwise(own: Own, announcement: &[u8; ANNOUNCEMENT_SIZE]) -> bool
     ensures { result ≡ voted_otherwise own announcement.now }
 {
-    own.voted & (own.vote.as_slice() != announcement)
+    own.voted & (own.vote != *announcement)
 }
 
 // No vote.
@@ -50,15 +48,12 @@ pub fn own_afresh(seat: u8, life: u32) -> Own
     }
 }
 
-pub fn with_vote(own: Own, announcement: &[u8]) -> Own
-    requires { length announcement.now ≡ announcement_size }
+pub fn with_vote(own: Own, announcement: &[u8; ANNOUNCEMENT_SIZE]) -> Own
     ensures { result ≡ with_vote announcement.now own }
 {
-    let mut vote = [0; ANNOUNCEMENT_SIZE];
-    vote.copy_from_slice(announcement);
     Own {
         voted: true,
-        vote,
+        vote: *announcement,
         ..own
     }
 }

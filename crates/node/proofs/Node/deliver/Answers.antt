@@ -9,7 +9,9 @@ use Rattle.state.specs.Limits.{seat_count, proposal_rows}
 use Rattle.state.specs.Seats.{seat_at}
 use Rattle.state.specs.Update.{with_proposals}
 use Rattle.refusals.proofs.Table.{refuses}
-use Rattle.records.proofs.Ranges.{announcement-size}
+use Rattle.records.proofs.Ranges.{other-size}
+use Rattle.records.specs.Announcement.{read_announcement}
+use Rattle.std.specs.Prelude.{Some}
 use Rattle.tables.proofs.Lapse.{none-lapsed}
 use Rattle.actions.specs.Perform.{without_lapsed}
 use Rattle.node.specs.Reply.{DeliverReply}
@@ -19,17 +21,28 @@ use borrow.Author.Rules.{rules}
 use Rattle.node.proofs.Node.deliver.Goals.{Else-not-is_sheet, Joined-at-lt-SEATS, Joined-has_lapsed, else-at-lt-SEATS, else-has_lapsed, then-at-lt-SEATS, then-has_lapsed}
 use Rattle.node.proofs.Node.deliver.Goals as goal
 
+-- the bytes that are read are the announcement's
+bytes-are : (c : Else-not-is_sheet) → c.in-Some.bytes.now ≡ c.args.announcement.now
+bytes-are c = c.in-Some.ensures.cases.same
+
 -- both records are well formed
-delivered : (c : Else-not-is_sheet) (r : DeliverReply) → r ≡ deliver_read c.args.self c.args.announcement.now c.in-Some.a c.args.sheet.now
+delivered : (c : Else-not-is_sheet) (r : DeliverReply) → r ≡ deliver_read c.args.self c.in-Some.bytes.now c.in-Some-read_announcement.a c.args.sheet.now
     → r ≡ deliver_of c.args.self c.args.announcement.now c.args.sheet.now
 unfolding deliver_of
-delivered c r h = rw (← c.read_announcement.ensures, c.in-Some.is, sym c.is_sheet.ensures ∙ c.if-not-is_sheet.false) h
+delivered c r h =
+    let read : read_announcement c.in-Some.bytes.now ≡ Some c.in-Some-read_announcement.a =
+    sym c.read_announcement.ensures ∙ c.in-Some-read_announcement.is in
+    rw (← bytes-are c, read, sym c.is_sheet.ensures ∙ c.if-not-is_sheet.false) h
+
+pub returns-in_default : goal.returns-in_default
+unfolding deliver_of
+returns-in_default c = rw (other-size c.args.announcement.now c.in_default.ensures.cases, c.refused.ensures)
 
 -- the state that the rules and the action see: without the lapsed proposals, where there are any
-sees : (c : Joined-has_lapsed) → c.if-has_lapsed.seen ≡ without_lapsed c.in-Some.a.day c.args.self.state
+sees : (c : Joined-has_lapsed) → c.if-has_lapsed.seen ≡ without_lapsed c.in-Some-read_announcement.a.day c.args.self.state
 sees c =
     let n = c.args.self in
-    let d = c.in-Some.a.day in
+    let d = c.in-Some-read_announcement.a.day in
     let with_rows : List Proposal → State = λ rows. with_proposals rows n.state in
     let rows : length n.state.proposals ≡ proposal_rows = search (rules, mapped-length) in
     elim c.if-has_lapsed.branch [
@@ -66,9 +79,6 @@ returns-then-shows_quorum c =
     (sym (c.shows_quorum.ensures ∙ same-quorum n _ _ seen) ∙ c.if-shows_quorum.true)
     (c.leave.ensures ∙ ap (λ (s : State). leaves s n.own) c.advance-next.ensures))
 
-pub vote_refusal-requires : goal.vote_refusal-requires
-vote_refusal-requires c = announcement-size c.args.announcement.now _ (sym c.read_announcement.ensures ∙ c.in-Some.is)
-
 pub returns-in-Err-vote_refusal : goal.returns-in-Err-vote_refusal
 returns-in-Err-vote_refusal c =
     let n = c.args.self in
@@ -79,9 +89,6 @@ returns-in-Err-vote_refusal c =
     (sym (c.shows_quorum.ensures ∙ same-quorum n _ _ seen) ∙ c.if-shows_quorum.false)
     (c.in-Err-vote_refusal.ensures n.state (own_seat ∙ ap (λ (s : State). seat_at n.own.seat s.seats) seen))
     (refuses c.in-Err-vote_refusal.refusal) (rw c.refused-in-Err-vote_refusal.ensures))
-
-pub vote_for-requires : goal.vote_for-requires
-vote_for-requires c = announcement-size c.args.announcement.now _ (sym c.read_announcement.ensures ∙ c.in-Some.is)
 
 pub returns : goal.returns
 returns c =

@@ -50,12 +50,12 @@ module _ (s : State) (d : Day) where
     unnamed : (seat : Seat) → set s.seats seat_count seat ≡ s.seats
     unnamed seat = set_out s.seats seat_count seat (omega (arith, long))
 
-    pub at-grant : (x : Login) (o : State) (rows : List Login) → o ≡ begun (case.Grant x) → rows ≡ grant_login x o.logins
+    pub at-grant : (x : Login) (o : State) (rows : List Login) → o ≡ begun (case.Grant x) → rows ≡ grant_login x s.logins
         → with_logins rows o ≡ left (case.Grant x)
     unfolding act use_proposal effect
     at-grant x o rows e h = rw (h, e, unnamed)
 
-    pub at-end : (login : ℕ) (o : State) (rows : List Login) → o ≡ begun (case.End login) → rows ≡ end_login login o.logins
+    pub at-end : (login : ℕ) (o : State) (rows : List Login) → o ≡ begun (case.End login) → rows ≡ end_login login s.logins
         → with_logins rows o ≡ left (case.End login)
     unfolding act use_proposal effect
     at-end login o rows e h = rw (h, e, unnamed)
@@ -75,7 +75,7 @@ module _ (s : State) (d : Day) where
 
     pub elsewhere : (x : Action) (f : Found) (o : State) (rows : List Proposal) → ((r : Login) → x ≡ case.Grant r → ⊥)
         → ((l : ℕ) → x ≡ case.End l → ⊥) → FindsNotice s d x f → o ≡ begun x
-        → rows ≡ proposals_after o.proposals f.notice.cycle s.cycle d x → with_proposals rows o ≡ left x
+        → rows ≡ proposals_after s.proposals f.notice.cycle s.cycle d x → with_proposals rows o ≡ left x
     elsewhere x f o rows g e found b h =
-        let q = h ∙ ap (λ (n : Proposal). proposals_after o.proposals n.cycle s.cycle d x) found in
+        let q = h ∙ ap (λ (n : Proposal). proposals_after s.proposals n.cycle s.cycle d x) found in
         rw (q, b) (at-proposals x g e)

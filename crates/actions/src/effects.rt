@@ -25,44 +25,30 @@ fn seat_after(seat: Seat, action: Action) -> Seat
     ensures { result ≡ seat_after seat action }
 {
     match action {
-        Action::Propose { subject } => seat,
-        Action::Cancel { cycle } => seat,
-        Action::Presents { seat: i, flag } => Seat {
+        Action::Presents { flag, .. } => Seat {
             standing: given_standing(flag),
-            life: seat.life,
+            ..seat
         },
-        Action::Certify { seat: i, life } => Seat {
+        Action::Certify { life, .. } => Seat {
             standing: CERTIFIED,
             life,
         },
-        Action::Minima { minima } => seat,
-        Action::Remove { seat: i } => Seat {
+        Action::Remove { .. } => Seat {
             standing: RETIRED,
-            life: seat.life,
+            ..seat
         },
-        Action::Rejoin { seat: i, life } => Seat {
-            standing: seat.standing,
-            life,
-        },
-        Action::Grant { row } => seat,
-        Action::End { login } => seat,
+        Action::Rejoin { life, .. } => Seat { life, ..seat },
+        _ => seat,
     }
 }
 
 fn minima_after(minima: Minima, action: Action) -> Minima
     ensures { result ≡ minima_after minima action }
 {
-    match action {
-        Action::Propose { subject } => minima,
-        Action::Cancel { cycle } => minima,
-        Action::Presents { seat, flag } => minima,
-        Action::Certify { seat, life } => minima,
-        Action::Minima { minima: x } => x.set_over(minima),
-        Action::Remove { seat } => minima,
-        Action::Rejoin { seat, life } => minima,
-        Action::Grant { row } => minima,
-        Action::End { login } => minima,
+    if let Action::Minima { minima: named } = action {
+        return named.set_over(minima);
     }
+    minima
 }
 
 // The proposals, in this cycle and for an action that is announced on day d. One that has a subject uses up its notice, of that cycle: a
@@ -86,13 +72,11 @@ fn proposals_after(
             },
         ),
         Action::Cancel { cycle: c } => drop_proposal(rows, c),
-        Action::Presents { seat, flag } => rows,
-        Action::Certify { seat, life } => drop_proposal(rows, notice),
-        Action::Minima { minima } => drop_proposal(rows, notice),
-        Action::Remove { seat } => drop_proposal(rows, notice),
-        Action::Rejoin { seat, life } => drop_proposal(rows, notice),
-        Action::Grant { row } => rows,
-        Action::End { login } => rows,
+        Action::Certify { .. } => drop_proposal(rows, notice),
+        Action::Minima { .. } => drop_proposal(rows, notice),
+        Action::Remove { .. } => drop_proposal(rows, notice),
+        Action::Rejoin { .. } => drop_proposal(rows, notice),
+        _ => rows,
     }
 }
 
@@ -104,32 +88,21 @@ pub fn advance(s: State, found: Found, a: Announcement) -> State
 {
     let mut out = s;
     let action = a.action;
-    let day = a.day;
-    let cycle = out.cycle;
-    let notice = found.notice;
-    let minima = minima_after(out.minima, action);
+    out.cycle = s.cycle.next();
+    out.day = a.day;
+    out.minima = minima_after(s.minima, action);
     let at = action.seat() as usize;
-    out.cycle = cycle.next();
-    out.day = day;
-    out.minima = minima;
     if at < SEATS {
         out.seats[at] = seat_after(found.seat, action);
     }
     if let Action::Grant { row } = action {
-        let logins = out.logins;
-        let eviction = found.eviction;
-        let next = grant_login(logins, row, eviction);
-        out.logins = next;
+        out.logins = grant_login(s.logins, row, found.eviction);
         return out;
     }
     if let Action::End { login } = action {
-        let logins = out.logins;
-        let next = end_login(logins, login);
-        out.logins = next;
+        out.logins = end_login(s.logins, login);
         return out;
     }
-    let rows = out.proposals;
-    let proposals = proposals_after(rows, notice.cycle, cycle, day, action);
-    out.proposals = proposals;
+    out.proposals = proposals_after(s.proposals, found.notice.cycle, s.cycle, a.day, action);
     out
 }

@@ -15,7 +15,7 @@ use Rattle.binary.specs.Number.{overwrite}
 use Rattle.checkpoint.specs.Checkpoint.{checkpoint_bytes}
 use Rattle.checkpoint.proofs.RoundTrips.{checkpoint-length}
 use Rattle.node.specs.declared.Node.{Node}
-use Rattle.node.specs.declared.CheckpointAnswer.TheVariants.{Given, Refused}
+use Rattle.node.specs.CheckpointAnswer.{Given, Refused}
 use Rattle.node.specs.Answers.{checkpoint_number}
 use Rattle.checkpoint.specs.Layout.{checkpoint_size}
 use Rattle.node.specs.Checkpoint.{checkpoint_of, checkpoint_slice}

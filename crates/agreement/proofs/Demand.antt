@@ -13,9 +13,8 @@ use Rattle.state.specs.Time.{is_before_day, later_day, days_since}
 use Rattle.state.specs.Seats.{quorum_of}
 use Rattle.tables.specs.Logins.{is_listed}
 use Rattle.records.specs.declared.Announcement.{Announcement}
-use Rattle.records.specs.declared.AnnouncementRead.TheVariants as A
+use Rattle.std.specs.Prelude.{Some}
 use Rattle.records.specs.declared.Query.{Query}
-use Rattle.records.specs.declared.QueryRead.TheVariants as Q
 use Rattle.records.specs.Announcement.{read_announcement}
 use Rattle.records.specs.Sheet.{rows_of, counted_seats}
 use Rattle.records.specs.StartQuery.{read_query}
@@ -25,8 +24,8 @@ use Rattle.actions.specs.Perform.{perform}
 use Rattle.actions.specs.Claims.{Advances}
 use Rattle.actions.proofs.Performed.{always-advances, end-drops}
 use Rattle.node.specs.declared.Node.{Node}
-use Rattle.node.specs.declared.DeliverReply.{DeliverReply}
-use Rattle.node.specs.declared.QueryReply.{QueryReply}
+use Rattle.node.specs.Reply.{DeliverReply}
+use Rattle.node.specs.Reply.{QueryReply}
 use Rattle.node.specs.Answers.{deliver_number, query_number}
 use Rattle.node.specs.Deliver.{deliver_of}
 use Rattle.node.specs.Query.{query_of}
@@ -51,7 +50,7 @@ pub record Does (n : Node) (ab sb : List ℕ) (a : Announcement) : Type 0 where
   pub accepted : Accepted n ab sb a
   pub quorum : quorum_of n.state ≤ counted_seats (rows_of sb) n.state.seats
 
-done : (n : Node) (ab sb : List ℕ) (a : Announcement) → read_announcement ab ≡ A.Read a → (r : DeliverReply) → Delivery n ab sb r → deliver_number
+done : (n : Node) (ab sb : List ℕ) (a : Announcement) → read_announcement ab ≡ Some a → (r : DeliverReply) → Delivery n ab sb r → deliver_number
     r.answer ≡ 0 → Does n ab sb a
 done n ab sb a ra r (Node.refuses k y e) z =
     let range = deliver-numbers y in
@@ -61,7 +60,7 @@ done n ab sb a ra r (Node.votes b acc few v e) z =
     let q : deliver_number r.answer ≡ 128 = ap (λ (x : DeliverReply). deliver_number x.answer) e in
     absurd (omega arith)
 done n ab sb a ra r (Node.performs b acc c e) z =
-    let q : A.Read b ≡ A.Read a = sym acc.read ∙ ra in
+    let q : Some b ≡ Some a = sym acc.read ∙ ra in
     let same : b ≡ a = cc in
     subst (Does n ab sb) same (record { accepted = acc; quorum = c })
 
@@ -72,7 +71,7 @@ does t s ab a sb p =
     ∙ p.answered in
     done n ab sb a p.read (deliver_of n ab sb) (deliver-comes-to n ab sb) (heard t.before p.host (delivered ab sb) p.out n p.held said)
 
-pub opened : (n : Node) (qb : List ℕ) (q : Query) → read_query qb ≡ Q.Read q → (r : QueryReply) → Asking n qb r → query_number r.answer ≡ 0 → Opens n q
+pub opened : (n : Node) (qb : List ℕ) (q : Query) → read_query qb ≡ Some q → (r : QueryReply) → Asking n qb r → query_number r.answer ≡ 0 → Opens n q
 opened n qb q rq r (Node.refuses k l y e) z =
     let range = query-numbers y in
     let w : query_number r.answer ≡ k = ap (λ (x : QueryReply). query_number x.answer) e in
@@ -81,7 +80,7 @@ opened n qb q rq r (Node.misses k x l rx m y e) z =
     let w : query_number r.answer ≡ k = ap (λ (x : QueryReply). query_number x.answer) e in
     absurd (omega arith)
 opened n qb q rq r (Node.opens p rp o e) z =
-    let w : Q.Read p ≡ Q.Read q = sym rp ∙ rq in
+    let w : Some p ≡ Some q = sym rp ∙ rq in
     let same : p ≡ q = cc in
     subst (Opens n) same o
 
@@ -149,7 +148,7 @@ module _ (first : List ℕ) (calls : History) (park : Park first calls) where
             (does z.moment s z.bytes c z.sheet p).quorum
 
         go : Dec (x.bytes ≡ y.bytes) → a ≡ b
-        go (yes e) = let q : A.Read a ≡ A.Read b = sym x.performed.read ∙ ap read_announcement e ∙ y.performed.read in cc
+        go (yes e) = let q : Some a ≡ Some b = sym x.performed.read ∙ ap read_announcement e ∙ y.performed.read in cc
         go (no e) =
             let most = bound (as-performed x) (as-performed y) refl e in
             let least = quorums-overlap s (rows_of x.sheet) (rows_of y.sheet) (quorate a x) (quorate b y) in

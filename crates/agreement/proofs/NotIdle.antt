@@ -17,7 +17,7 @@ use Rattle.state.specs.declared.Cycle.{Cycle}
 use Rattle.state.specs.declared.State.{State}
 use Rattle.tables.specs.Logins.{is_listed}
 use Rattle.records.specs.declared.Announcement.{Announcement}
-use Rattle.records.specs.declared.AnnouncementRead.TheVariants.{Read}
+use Rattle.std.specs.Prelude.{Some}
 use Rattle.records.specs.Announcement.{read_announcement}
 use Rattle.checkpoint.specs.Layout as layout
 use Rattle.checkpoint.specs.Layout.{tables_at}
@@ -113,7 +113,7 @@ first-accepted = refl
 
 abbrev AsAnnounced : (ℕ → List ℕ) → Call → Type 0
 AsAnnounced g (start h cb rb out) = Unit {0}
-AsAnnounced g (deliver h ab sb out) = (a : Announcement) → read_announcement ab ≡ Read a → ab ≡ g a.cycle.0
+AsAnnounced g (deliver h ab sb out) = (a : Announcement) → read_announcement ab ≡ Some a → ab ≡ g a.cycle.0
 AsAnnounced g (query h qb out) = Unit {0}
 AsAnnounced g (checkpoint h out) = Unit {0}
 
@@ -140,16 +140,16 @@ announced : List ℕ → ℕ → List ℕ
 announced later c = cond (eqb c 1) (grant_to 120) later
 
 -- bytes that are read as an announcement of cycle c
-of-cycle : (later ab : List ℕ) (b : Announcement) → read_announcement ab ≡ Read b → ab ≡ announced later b.cycle.0
-    → (a : Announcement) → read_announcement ab ≡ Read a → ab ≡ announced later a.cycle.0
-of-cycle later ab b e f a r = let w : Read b ≡ Read a = sym e ∙ r in let same : b ≡ a = cc in subst
+of-cycle : (later ab : List ℕ) (b : Announcement) → read_announcement ab ≡ Some b → ab ≡ announced later b.cycle.0
+    → (a : Announcement) → read_announcement ab ≡ Some a → ab ≡ announced later a.cycle.0
+of-cycle later ab b e f a r = let w : Some b ≡ Some a = sym e ∙ r in let same : b ≡ a = cc in subst
     (λ (x : Announcement). ab ≡ announced later x.cycle.0) same f
 
-granted : (later : List ℕ) (a : Announcement) → read_announcement (grant_to 120) ≡ Read a → grant_to 120 ≡ announced later a.cycle.0
+granted : (later : List ℕ) (a : Announcement) → read_announcement (grant_to 120) ≡ Some a → grant_to 120 ≡ announced later a.cycle.0
 unfolding calls-by-value announced
 granted later = of-cycle later (grant_to 120) _ refl refl
 
-ended : (a : Announcement) → read_announcement end501 ≡ Read a → end501 ≡ announced end501 a.cycle.0
+ended : (a : Announcement) → read_announcement end501 ≡ Some a → end501 ≡ announced end501 a.cycle.0
 unfolding calls-by-value announced
 ended = of-cycle end501 end501 _ refl refl
 
@@ -170,7 +170,7 @@ evicting-park : Park full_checkpoint evicting
 unfolding calls-at-hosts all numbered
 evicting-park = park full_checkpoint evicting refl refl refl (refl, (refl, (tt, (tt, (tt, tt)))))
 
-not-ended : (a : Announcement) → read_announcement end200 ≡ Read a → end200 ≡ announced end200 a.cycle.0
+not-ended : (a : Announcement) → read_announcement end200 ≡ Some a → end200 ≡ announced end200 a.cycle.0
 unfolding calls-by-value announced
 not-ended = of-cycle end200 end200 _ refl refl
 

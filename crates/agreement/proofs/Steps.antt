@@ -14,9 +14,9 @@ use Rattle.checkpoint.specs.Checkpoint.{CheckpointRead, checkpoint_bytes, read_c
 use Rattle.checkpoint.proofs.RoundTrips.{state-read-back}
 use Rattle.actions.specs.Claims.{WellFormed}
 use Rattle.node.specs.declared.Node.{Node}
-use Rattle.node.specs.declared.StartReply.{StartReply}
-use Rattle.node.specs.declared.StartAnswer.TheVariants.{Started}
-use Rattle.node.specs.declared.DeliverReply.{DeliverReply}
+use Rattle.node.specs.Reply.{StartReply}
+use Rattle.node.specs.StartAnswer.{Started}
+use Rattle.node.specs.Reply.{DeliverReply}
 use Rattle.node.specs.Answers.{start_number, deliver_number}
 use Rattle.node.specs.Deliver.{deliver_of}
 use Rattle.node.specs.Start.{start_of}

@@ -9,7 +9,7 @@
 --   List.Memᴰ x l   x stands in the list l; t ∈ calls: t is a moment of the list, a call with the cluster that it finds
 --   after t         the cluster after that call; node_at w h: the node that host h holds in w, or none
 --   accepted        the answer 0: started, performed, open or given; `EquivocationBound` is the paper's double-voter bound
-use Rattle.std.specs.Prelude.{◌≡◌, ◌≢◌, ◌⊎◌, true, ℕ, ◌*◌, ◌≤◌, ◌<◌}
+use Rattle.std.specs.Prelude.{◌≡◌, ◌≢◌, ◌⊎◌, true, ℕ, ◌*◌, ◌≤◌, ◌<◌, Some}
 use mathlib.Core.List.{List, [], ◌++◌, ◌∷◌, Memᴰ}
 use Rattle.std.proofs.Math.Option.{some}
 use Rattle.binary.specs.Number.{Bytes}
@@ -17,10 +17,8 @@ use Rattle.state.specs.declared.Cycle.{Cycle}
 use Rattle.state.specs.declared.State.{State}
 use Rattle.state.specs.Time.{days_since, CycleBefore}
 use Rattle.records.specs.declared.Announcement.{Announcement}
-use Rattle.records.specs.declared.AnnouncementRead.TheVariants as A
 use Rattle.records.specs.declared.Action.TheVariants.{End}
 use Rattle.records.specs.declared.Query.{Query}
-use Rattle.records.specs.declared.QueryRead.TheVariants as Q
 use Rattle.records.specs.Announcement.{read_announcement}
 use Rattle.records.specs.Sheet.{rows_of, counted_on_both}
 use Rattle.records.specs.StartQuery.{read_query}
@@ -46,7 +44,7 @@ pub record Performed (t : Moment) (s : State) (ab : List ℕ) (a : Announcement)
   pub held : node_at t.before host ≡ some node
   pub state : s ≡ node.state
   pub answered : answer t ≡ accepted
-  pub read : read_announcement ab ≡ A.Read a
+  pub read : read_announcement ab ≡ Some a
 
 -- At moment t the query q is answered open, by the node n.
 pub record Opened (t : Moment) (n : Node) (q : Query) : Type 0 where
@@ -56,7 +54,7 @@ pub record Opened (t : Moment) (n : Node) (q : Query) : Type 0 where
   pub called : t.call ≡ query host qb out
   pub held : node_at t.before host ≡ some n
   pub answered : answer t ≡ accepted
-  pub read : read_query qb ≡ Q.Read q
+  pub read : read_query qb ≡ Some q
 
 -- A deliver call of the list that is performed.
 pub record PerformedIn (calls : History) : Type 0 where

@@ -31,7 +31,7 @@ use Rattle.page.specs.Page.{listed, line_count, lines_of, is_silent_on, page_tex
 use Rattle.page.proofs.ReadBack.{line-back}
 use Rattle.page.proofs.Rows.{InWidth, line-fits, lines-size}
 use Rattle.records.specs.declared.Query.{Query}
-use Rattle.records.specs.declared.QueryRead.{QueryRead}
+use Rattle.std.specs.Prelude.{Option}
 use Rattle.checkpoint.specs.Format.{login}
 use Rattle.checkpoint.specs.Checkpoint.{Fits}
 use Rattle.verdicts.specs.Own.{held_seat}
@@ -70,7 +70,7 @@ module _ (n : Node) (q : Query) where
 pub word-agrees : WordAgrees
 unfolding query_of ask_of is_listed
 word-agrees n qb q rq within runs unlocked is-listed holds =
-    ap (λ (x : QueryRead). query_number (ask_record n.state n.own n.counts x).answer) rq
+    ap (λ (x : Option Query). query_number (ask_record n.state n.own n.counts x).answer) rq
     ∙ rw (all-in-range n.counts within) (answer-number n.counts q.door (query_refusal n.state n.own n.counts q))
     ∙ by-rules n q runs unlocked is-listed holds
 

@@ -15,7 +15,7 @@ use Rattle.binary.specs.Number.{Bytes}
 use Rattle.records.specs.StartQuery.{read_query}
 use Rattle.verdicts.specs.Attempts.{no_misses}
 use Rattle.node.specs.declared.Node.{Node}
-use Rattle.node.specs.declared.DeliverReply.{DeliverReply}
+use Rattle.node.specs.Reply.{DeliverReply}
 use Rattle.node.specs.Answers.{deliver_number, query_number, checkpoint_number}
 use Rattle.checkpoint.specs.Layout.{checkpoint_size}
 use Rattle.node.specs.Checkpoint.{checkpoint_of, checkpoint_slice}

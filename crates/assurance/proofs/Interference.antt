@@ -9,8 +9,7 @@ use Rattle.lists.proofs.Tests.{clash}
 use Rattle.state.specs.declared.State.{State}
 use Rattle.state.specs.Seats.{quorum_of}
 use Rattle.records.specs.declared.Announcement.{Announcement}
-use Rattle.records.specs.declared.AnnouncementRead.{AnnouncementRead}
-use Rattle.records.specs.declared.AnnouncementRead.TheVariants.{Read, Malformed}
+use Rattle.std.specs.Prelude.{Option, Some, None}
 use Rattle.records.specs.Announcement.{read_announcement}
 use Rattle.records.specs.Sheet.{is_sheet, level1, level2, rows_of, counted_seats}
 use Rattle.actions.specs.Claims.{Admitted}
@@ -18,8 +17,8 @@ use Rattle.actions.specs.Perform.{without_lapsed, perform}
 use Rattle.refusals.specs.Refusals.{refuse_if, ◌or_else◌}
 use Rattle.rules.specs.Rules.{time_refusal, action_refusal}
 use Rattle.node.specs.declared.Node.{Node}
-use Rattle.node.specs.declared.DeliverAnswer.TheVariants.{Done, Refused}
-use Rattle.node.specs.declared.DeliverReply.{DeliverReply}
+use Rattle.node.specs.DeliverAnswer.{Done, Refused}
+use Rattle.node.specs.Reply.{DeliverReply}
 use Rattle.node.specs.Answers.{deliver_number}
 use Rattle.node.specs.Deliver as Deliver
 use Rattle.verdicts.specs.Verdicts.{deliver_refusal, shows_quorum}
@@ -78,10 +77,10 @@ module _ (n k : Node) (same : Alike n k) (ab sb : List ℕ) where
       same.halted same.state
 
   -- rule 2, after rule 1
-  sheet-alike : (j : ℕ) → is_sheet sb ≡ false → (o : AnnouncementRead) → (deliver_records n ab o sb).answer ≡ Refused j
+  sheet-alike : (j : ℕ) → is_sheet sb ≡ false → (o : Option Announcement) → (deliver_records n ab o sb).answer ≡ Refused j
       → (deliver_records k ab o sb).answer ≡ Refused j
-  sheet-alike j rs Malformed e = e
-  sheet-alike j rs (Read a) e = rw rs (rw rs at e)
+  sheet-alike j rs None e = e
+  sheet-alike j rs (Some a) e = rw rs (rw rs at e)
 
   refused-alike : (j : ℕ) → j ≤ 14 → (deliver_of n ab sb).answer ≡ Refused j → DeliverRefused n ab sb j → (deliver_of k ab sb).answer ≡ Refused j
   unfolding deliver_of deliver_read
@@ -139,7 +138,7 @@ own-seat-matters = record { well-formed = refl; own = (refl, refl); running = re
 -- ---- the sheet
 
 -- the announcement is read the same
-pub same-announcement : (ab : List ℕ) {a b : Announcement} → read_announcement ab ≡ Read a → read_announcement ab ≡ Read b → a ≡ b
+pub same-announcement : (ab : List ℕ) {a b : Announcement} → read_announcement ab ≡ Some a → read_announcement ab ≡ Some b → a ≡ b
 same-announcement ab p q = let r = sym p ∙ q in cc
 
 pub same-quorum : SameQuorum
@@ -163,9 +162,9 @@ order-of-rows-is-free sb tb h n ab = go (read_announcement ab)
     count : counted_seats (rows_of sb) n.state.seats ≡ counted_seats (rows_of tb) n.state.seats
     count = omega (arith, seats-among sb tb h.there n.state.seats, seats-among tb sb h.back n.state.seats)
 
-    go : (o : AnnouncementRead) → deliver_records n ab o sb ≡ deliver_records n ab o tb
-    go Malformed = refl
-    go (Read a) = rw (h.sheets.0, h.sheets.1, h.mask1, h.mask2, count)
+    go : (o : Option Announcement) → deliver_records n ab o sb ≡ deliver_records n ab o tb
+    go None = refl
+    go (Some a) = rw (h.sheets.0, h.sheets.1, h.mask1, h.mask2, count)
 
 pub more-is-enough : MoreIsEnough
 more-is-enough n ab sb tb d h =

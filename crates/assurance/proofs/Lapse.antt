@@ -25,8 +25,8 @@ use Rattle.actions.specs.Perform.{effect, use_proposal, act, advance, perform}
 use Rattle.actions.specs.Claims.{Admitted, Signed}
 use Rattle.actions.proofs.Notified.{none-older, row_of}
 use Rattle.node.specs.declared.Node.{Node}
-use Rattle.node.specs.declared.DeliverAnswer.TheVariants.{Done}
-use Rattle.node.specs.declared.DeliverReply.{DeliverReply}
+use Rattle.node.specs.DeliverAnswer.{Done}
+use Rattle.node.specs.Reply.{DeliverReply}
 use Rattle.node.specs.Claims.{Delivery, refuses, votes, performs}
 use Rattle.node.specs.Applies.{deliver, at, Announces, Applies, no-11, no-13, propose, grant, proposal}
 use Rattle.node.proofs.Deliver.{deliver-comes-to}

@@ -11,15 +11,15 @@ use lib.Seq.{get_or-set_same, get_or-set_other}
 use borrow.Author.Tests.{eq-eqb, ne_eqb, le-leb}
 use Rattle.state.specs.Seats.{retired}
 use Rattle.records.specs.declared.Query.{Query}
-use Rattle.records.specs.declared.QueryRead.TheVariants as Q
+use Rattle.std.specs.Prelude.{Some}
 use Rattle.records.specs.Layout.{door_count}
 use Rattle.records.specs.StartQuery.{read_query}
 use Rattle.verdicts.specs.Own.{held_seat}
 use Rattle.verdicts.specs.Attempts.{most_misses, misses_at}
 use Rattle.verdicts.specs.Verdicts.{query_refusal}
 use Rattle.node.specs.declared.Node.{Node}
-use Rattle.node.specs.declared.QueryAnswer.{QueryAnswer}
-use Rattle.node.specs.declared.QueryAnswer.TheVariants.{Refused}
+use Rattle.node.specs.QueryAnswer.{QueryAnswer}
+use Rattle.node.specs.QueryAnswer.{Refused}
 use Rattle.node.specs.Answers.{query_number}
 use Rattle.node.specs.Query.{answered, ask_of, query_of}
 use Rattle.node.specs.WellFormed.{WellFormedNode}
@@ -75,7 +75,7 @@ missed-running n qb m r =
     ).none-lower 3 (inr (inl refl)) (omega arith) (Table.no-3 r)
 
 -- rule 17 where the node is not halted
-locked-by : (m : Node) → WellFormedNode m → (held_seat m.state m.own).standing ≢ retired → (qb : List ℕ) (q : Query) → read_query qb ≡ Q.Read q
+locked-by : (m : Node) → WellFormedNode m → (held_seat m.state m.own).standing ≢ retired → (qb : List ℕ) (q : Query) → read_query qb ≡ Some q
     → misses_at q.door m.counts ≡ most_misses → (query_of m qb).answer ≡ Refused 17
 unfolding query_of ask_of query_refusal answered
 locked-by m w runs qb q rq e = rw (rq, w.counts, ne_eqb _ _ runs, le-leb most_misses (misses_at q.door m.counts) (omega arith))
@@ -110,7 +110,7 @@ module _ (h : Host) (d : ℕ) where
         let qb = a.bytes in
         let s = heard c a in
         let one = query-misses n qb _ (query-comes-to n qb) s.0 in
-        let both : Q.Read one.query ≡ Q.Read a.question = sym one.read ∙ a.read in
+        let both : Some one.query ≡ Some a.question = sym one.read ∙ a.read in
         let same : one.query ≡ a.question = cc in
         let door = ap (λ (x : Query). x.door) same ∙ a.door in
         let is : (query_of n qb).node ≡ one_miss_more d n = one.node ∙ ap (λ (x : ℕ). one_miss_more x n) door in

@@ -13,10 +13,8 @@ use Rattle.binary.specs.Codec.{byte}
 use Rattle.binary.proofs.Codec.{fits_count}
 use Rattle.state.specs.declared.State.{State}
 use Rattle.records.specs.declared.Query.{Query}
-use Rattle.records.specs.declared.QueryRead.{QueryRead}
-use Rattle.records.specs.declared.QueryRead.TheVariants as Q
-use Rattle.records.specs.declared.AnnouncementRead.{AnnouncementRead}
-use Rattle.records.specs.declared.AnnouncementRead.TheVariants as A
+use Rattle.std.specs.Prelude.{Option, Some, None}
+use Rattle.records.specs.declared.Announcement.{Announcement}
 use Rattle.records.specs.Layout.{door_count}
 use Rattle.records.specs.Announcement.{read_announcement}
 use Rattle.records.specs.Sheet.{is_sheet}
@@ -27,9 +25,9 @@ use Rattle.verdicts.specs.declared.AttemptCounts.{AttemptCounts}
 use Rattle.verdicts.specs.Attempts.{misses_at, with_misses, are_in_range}
 use Rattle.verdicts.specs.Verdicts.{deliver_refusal, shows_quorum, vote_refusal, query_refusal}
 use Rattle.node.specs.declared.Node.{Node}
-use Rattle.node.specs.declared.CountedAnswer.{CountedAnswer}
-use Rattle.node.specs.declared.DeliverReply.{DeliverReply}
-use Rattle.node.specs.declared.QueryAnswer.TheVariants.{Open, Refused}
+use Rattle.node.specs.Reply.{CountedAnswer}
+use Rattle.node.specs.Reply.{DeliverReply}
+use Rattle.node.specs.QueryAnswer.{Open, Refused}
 use Rattle.node.specs.Deliver.{deliver_read, deliver_records, deliver_of}
 use Rattle.node.specs.Query.{adds_miss, answered, ask_record, ask_of, with_counts, query_of}
 use Rattle.node.specs.WellFormed.{WellFormedNode}
@@ -75,9 +73,9 @@ module _ (d : ℕ) where
       same : SameAt d (with_counts c n) n
       same = record { state = refl; own = refl; misses = e }
 
-      by : (o : AnnouncementRead) → SameReply (deliver_records (with_counts c n) ab o sb) (deliver_records n ab o sb)
-      by A.Malformed = (refl, same)
-      by (A.Read a) =
+      by : (o : Option Announcement) → SameReply (deliver_records (with_counts c n) ab o sb) (deliver_records n ab o sb)
+      by None = (refl, same)
+      by (Some a) =
           either (is_sheet sb)
           (either (eqb (deliver_refusal (without_lapsed a.day n.state) n.own a sb) 0)
           (either (shows_quorum n.state sb) (refl, same-itself _)
@@ -122,9 +120,9 @@ module _ (d : ℕ) where
       rw at
 
   asked-same : (s : State) (o : Own) (b c : AttemptCounts) → are_in_range b ≡ true → are_in_range c ≡ true → length b.misses ≡ length c.misses
-      → misses_at d b ≡ misses_at d c → (x : QueryRead) → is_elsewhere d x ≡ false → SameCounted (ask_record s o b x) (ask_record s o c x)
-  asked-same s o b c rb rc l e Q.Malformed h = (refl, e)
-  asked-same s o b c rb rc l e (Q.Read q) h =
+      → misses_at d b ≡ misses_at d c → (x : Option Query) → is_elsewhere d x ≡ false → SameCounted (ask_record s o b x) (ask_record s o c x)
+  asked-same s o b c rb rc l e None h = (refl, e)
+  asked-same s o b c rb rc l e (Some q) h =
       let door = eqb-true q.door d (not-false _ h) in
       let k = query_refusal s o c q in
       rw (rb, rc, refusal-same s o b c q door e)
@@ -142,11 +140,11 @@ module _ (d : ℕ) where
       )
 
   -- at another door
-  asked-elsewhere : (s : State) (o : Own) (c : AttemptCounts) (x : QueryRead) → is_elsewhere d x ≡ true
+  asked-elsewhere : (s : State) (o : Own) (c : AttemptCounts) (x : Option Query) → is_elsewhere d x ≡ true
       → misses_at d (ask_record s o c x).counts ≡ misses_at d c
   unfolding answered
-  asked-elsewhere s o c Q.Malformed h = absurd (false≢true h)
-  asked-elsewhere s o c (Q.Read q) h =
+  asked-elsewhere s o c None h = absurd (false≢true h)
+  asked-elsewhere s o c (Some q) h =
       let other : (m : ℕ) → misses_at d (with_misses q.door m c) ≡ misses_at d c =
       λ m. get_or-set_other c.misses q.door d m 0 (λ e. eqb-false q.door d (not-true _ h) (sym e)) in
       let k = query_refusal s o c q in

@@ -18,8 +18,8 @@ use Rattle.records.specs.Sheet.{Row, level1, level2, rows_of, counts, counted_se
 use Rattle.records.proofs.Counts.{counts-listed-life}
 use Rattle.actions.specs.Claims.{Admitted}
 use Rattle.node.specs.declared.Node.{Node}
-use Rattle.node.specs.declared.DeliverReply.{DeliverReply}
-use Rattle.node.specs.declared.DeliverAnswer.TheVariants.{Voted}
+use Rattle.node.specs.Reply.{DeliverReply}
+use Rattle.node.specs.DeliverAnswer.{Voted}
 use Rattle.binary.proofs.Same.{same_bytes}
 use Rattle.verdicts.specs.Own.{held_seat, voted_otherwise}
 use Rattle.verdicts.specs.Verdicts.{deliver_refusal, shows_quorum, vote_refusal}

@@ -14,18 +14,18 @@ use Rattle.binary.specs.Number.{overwrite}
 use Rattle.state.specs.declared.Day.{Day}
 use Rattle.state.specs.Time.{cycle, day}
 use Rattle.records.specs.declared.Query.{Query}
-use Rattle.records.specs.declared.QueryRead.TheVariants as Q
+use Rattle.std.specs.Prelude.{Some}
 use Rattle.records.specs.StartQuery.{read_query}
 use Rattle.roster.proofs.Outcomes.{import-answers, export-answers}
 use Rattle.shares.proofs.Answering.{split-answers, merge-answers, add-answers}
 use Rattle.page.specs.Page.{line_count, page_text}
 use Rattle.node.specs.declared.Node.{Node}
-use Rattle.node.specs.declared.StartReply.{StartReply}
-use Rattle.node.specs.declared.DeliverReply.{DeliverReply}
-use Rattle.node.specs.declared.QueryReply.{QueryReply}
-use Rattle.node.specs.declared.CheckpointAnswer.{CheckpointAnswer}
-use Rattle.node.specs.declared.CheckpointAnswer.TheVariants.{Given, Refused}
-use Rattle.node.specs.declared.PageAnswer.TheVariants as Page
+use Rattle.node.specs.Reply.{StartReply}
+use Rattle.node.specs.Reply.{DeliverReply}
+use Rattle.node.specs.Reply.{QueryReply}
+use Rattle.node.specs.CheckpointAnswer.{CheckpointAnswer}
+use Rattle.node.specs.CheckpointAnswer.{Given, Refused}
+use Rattle.node.specs.PageAnswer as Page
 use Rattle.node.specs.Answers.{start_number, deliver_number, query_number, checkpoint_number}
 use Rattle.checkpoint.specs.Layout.{checkpoint_size}
 use Rattle.node.specs.Checkpoint.{checkpoint_of, checkpoint_slice}
@@ -95,7 +95,7 @@ query-same n qb r (opens q rq o e) h m = absurd (h.0 (query-number e))
 -- a query hands back its node with f of the door
 pub record CountedAt (n : Node) (qb : List ℕ) (m : Node) (f : ℕ → Node → Node) : Type 0 where
   pub query : Query
-  pub read : read_query qb ≡ Q.Read query
+  pub read : read_query qb ≡ Some query
   pub node : m ≡ f query.door n
 
 pub query-misses : (n : Node) (qb : List ℕ) (r : QueryReply) → Asking n qb r → AddsMiss (query_number r.answer) → CountedAt n qb r.node one_miss_more

@@ -10,19 +10,19 @@ use lib.Dec.{eqb}
 use Rattle.checkpoint.specs.Checkpoint.{checkpoint_bytes}
 use Rattle.lists.proofs.Tests.{cond_cases}
 use Rattle.state.specs.declared.State.{State}
-use Rattle.records.specs.declared.AnnouncementRead.{AnnouncementRead}
-use Rattle.records.specs.declared.AnnouncementRead.TheVariants.{Read, Malformed}
+use Rattle.std.specs.Prelude.{Option, Some, None}
+use Rattle.records.specs.declared.Announcement.{Announcement}
 use Rattle.records.specs.Announcement.{read_announcement}
 use Rattle.records.specs.Sheet.{is_sheet}
 use Rattle.actions.specs.Perform.{without_lapsed, perform}
 use Rattle.actions.specs.Claims.{Advances}
 use Rattle.actions.proofs.Performed.{always-advances}
 use Rattle.node.specs.declared.Node.{Node}
-use Rattle.node.specs.declared.DeliverReply.{DeliverReply}
-use Rattle.node.specs.declared.QueryReply.{QueryReply}
-use Rattle.node.specs.declared.StartReply.{StartReply}
-use Rattle.node.specs.declared.DeliverAnswer.{DeliverAnswer}
-use Rattle.node.specs.declared.DeliverAnswer.TheVariants.{Done, Voted, Refused}
+use Rattle.node.specs.Reply.{DeliverReply}
+use Rattle.node.specs.Reply.{QueryReply}
+use Rattle.node.specs.Reply.{StartReply}
+use Rattle.node.specs.DeliverAnswer.{DeliverAnswer}
+use Rattle.node.specs.DeliverAnswer.{Done, Voted, Refused}
 use Rattle.node.specs.Answers.{start_number, deliver_number}
 use Rattle.binary.specs.Number.{is_same_bytes}
 use Rattle.verdicts.specs.Own.{voted_otherwise, can_vote}
@@ -149,9 +149,9 @@ no-vote : (n : Node) (ab sb : List ℕ) → voted_otherwise n.own ab ≡ true �
 unfolding deliver_of deliver_read vote_refusal
 no-vote n ab sb o = by (read_announcement ab)
   where
-    by : (x : AnnouncementRead) → is_voted (deliver_records n ab x sb).answer ≡ false
-    by Malformed = refl
-    by (Read a) =
+    by : (x : Option Announcement) → is_voted (deliver_records n ab x sb).answer ≡ false
+    by None = refl
+    by (Some a) =
         cond_cases (λ (r : DeliverReply). is_voted r.answer ≡ false) (is_sheet sb)
         (λ _. cond_cases (λ (r : DeliverReply). is_voted r.answer ≡ false)
         (eqb (deliver_refusal (without_lapsed a.day n.state) n.own a sb) 0)

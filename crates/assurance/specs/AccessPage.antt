@@ -1,5 +1,5 @@
 -- What an office can rely on in an access page. No claim asks for a running or an unlocked node, but where it speaks of a query.
-use Rattle.std.specs.Prelude.{◌≡◌, ◌≢◌, true, ℕ, ◌≤◌, ◌<◌}
+use Rattle.std.specs.Prelude.{◌≡◌, ◌≢◌, true, ℕ, ◌≤◌, ◌<◌, Some}
 use mathlib.Core.List.{List, map, Memᴰ}
 use Rattle.std.proofs.Math.Option.{Option}
 use Rattle.binary.specs.Codec.{decode_rows}
@@ -16,7 +16,6 @@ use Rattle.page.specs.declared.Word.TheVariants.{Open, Ended, Silent}
 use Rattle.page.specs.Line.{Line, line}
 use Rattle.page.specs.Page.{end_shown, line_of, listed, line_count, is_silent_on, page_text}
 use Rattle.records.specs.declared.Query.{Query}
-use Rattle.records.specs.declared.QueryRead.TheVariants as Q
 use Rattle.records.specs.StartQuery.{read_query}
 use Rattle.checkpoint.specs.Checkpoint.{Fits}
 use Rattle.verdicts.specs.Own.{held_seat}
@@ -43,7 +42,7 @@ number_of Ended = 20
 -- For a node that is not halted, has no count above 10 and is not locked at the door, a listed login, a right that its row holds and every day, the
 -- query answers open, 18 or 20 exactly where the login's line has the word open, silent or ended.
 abbrev pub WordAgrees : Type 0
-WordAgrees = (n : Node) (qb : List ℕ) (q : Query) → read_query qb ≡ Q.Read q
+WordAgrees = (n : Node) (qb : List ℕ) (q : Query) → read_query qb ≡ Some q
     → ((door : ℕ) → misses_at door n.counts ≤ most_misses)
     → (held_seat n.state n.own).standing ≢ retired → misses_at q.door n.counts < most_misses
     → is_listed q.login n.state.logins ≡ true → holds_right q.right (find_login q.login n.state.logins) ≡ true

@@ -1,12 +1,11 @@
 -- "Two runs that differ only in the queries at other doors give one door the same answers and leave it the same count.": for lists of calls at any
 -- number of hosts, by value and through C, from empty hosts. And what locks a door, and what opens all four.
-use Rattle.std.specs.Prelude.{◌≡◌, ◌≢◌, Bool, false, cond, not, ◌&&◌, ℕ, ◌≤◌, ◌<◌, eqb, length}
+use Rattle.std.specs.Prelude.{◌≡◌, ◌≢◌, Bool, false, cond, not, ◌&&◌, ℕ, ◌≤◌, ◌<◌, eqb, length, Some, None}
 use mathlib.Core.List.{List, [], ◌∷◌, Memᴰ}
+use Rattle.std.specs.declared.option.Option as Rust
 use Rattle.std.proofs.Math.Option.{Option, none, some}
 use Rattle.lists.specs.Table.{keep}
 use Rattle.records.specs.declared.Query.{Query}
-use Rattle.records.specs.declared.QueryRead.{QueryRead}
-use Rattle.records.specs.declared.QueryRead.TheVariants as Q
 use Rattle.records.specs.Layout.{door_count}
 use Rattle.records.specs.StartQuery.{read_query}
 use Rattle.verdicts.specs.Attempts.{most_misses, misses_at, no_misses}
@@ -20,9 +19,9 @@ use Rattle.assurance.specs.Refusals.{AddsMiss}
 -- ---- the calls that concern a door
 
 -- a well-formed query at another door than d; a malformed one is at no door
-abbrev pub is_elsewhere : ℕ → QueryRead → Bool
-is_elsewhere d Q.Malformed = false
-is_elsewhere d (Q.Read q) = not (eqb q.door d)
+abbrev pub is_elsewhere : ℕ → Rust.Option Query → Bool
+is_elsewhere d None = false
+is_elsewhere d (Some q) = not (eqb q.door d)
 
 abbrev pub is_same_host : Host → Host → Bool
 is_same_host (by_value i) (by_value j) = eqb i j
@@ -85,7 +84,7 @@ pub record AddsMissAt (h : Host) (d : ℕ) (w : Cluster) (c : Call) : Type 0 whe
   pub out : List ℕ
   pub called : c ≡ query h bytes out
   pub question : Query
-  pub read : read_query bytes ≡ Q.Read question
+  pub read : read_query bytes ≡ Some question
   pub door : question.door ≡ d
   pub number : ℕ
   pub answered : (run w c).answer ≡ some number
@@ -103,8 +102,8 @@ HasRoom (through_c i) out = image_size ≤ length out
 
 -- in cluster v, host h answers 17 at door d, and at every other door as in cluster w
 pub record LockedAlone (h : Host) (d : ℕ) (w v : Cluster) : Type 0 where
-  pub locked : (qb out : List ℕ) (q : Query) → read_query qb ≡ Q.Read q → q.door ≡ d → HasRoom h out → (run v (query h qb out)).answer ≡ some 17
-  pub others : (qb out : List ℕ) (q : Query) → read_query qb ≡ Q.Read q → q.door ≢ d
+  pub locked : (qb out : List ℕ) (q : Query) → read_query qb ≡ Some q → q.door ≡ d → HasRoom h out → (run v (query h qb out)).answer ≡ some 17
+  pub others : (qb out : List ℕ) (q : Query) → read_query qb ≡ Some q → q.door ≢ d
       → (run v (query h qb out)).answer ≡ (run w (query h qb out)).answer
 
 -- Ten refused queries in a row at one door of a host lock that door and no other.

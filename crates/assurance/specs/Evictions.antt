@@ -1,16 +1,15 @@
 -- "Grants into a full list" (02, A8): what an owner can rely on where a grant evicts a login.
-use Rattle.std.specs.Prelude.{◌≡◌, ◌≢◌, true, ℕ, ◌<◌}
+use Rattle.std.specs.Prelude.{◌≡◌, ◌≢◌, true, ℕ, ◌<◌, Some}
 use mathlib.Core.List.{List, Memᴰ}
 use Rattle.state.specs.declared.Login.{Login}
 use Rattle.state.specs.Time.{days_since, DayNotAfter}
 use Rattle.state.specs.Rows.{is_login}
 use Rattle.records.specs.declared.Action.TheVariants.{End}
 use Rattle.records.specs.declared.Query.{Query}
-use Rattle.records.specs.declared.QueryRead.TheVariants as Q
 use Rattle.records.specs.StartQuery.{read_query}
 use Rattle.actions.specs.Evictions.{Evicts, RowAfter}
 use Rattle.node.specs.declared.Node.{Node}
-use Rattle.node.specs.declared.QueryAnswer.TheVariants.{Open}
+use Rattle.node.specs.QueryAnswer.{Open}
 use Rattle.node.specs.Query.{query_of}
 use Rattle.agreement.specs.History.{History}
 use Rattle.agreement.specs.Claims.{PerformedIn, OpenedIn, Park, EquivocationBound, GrantedBetween}
@@ -25,7 +24,7 @@ ListedRowsStay = (first : List ℕ) (calls : History) → Park first calls
 abbrev pub EvictedWasClosed : Type 0
 EvictedWasClosed = (first : List ℕ) (calls : History) → Park first calls
     → (p : PerformedIn calls) (x r : Login) → Evicts p.state p.announcement x r
-    → (n : Node) → n.state ≡ p.state → (qb : List ℕ) (q : Query) → read_query qb ≡ Q.Read q → q.login ≡ r.login
+    → (n : Node) → n.state ≡ p.state → (qb : List ℕ) (q : Query) → read_query qb ≡ Some q → q.login ≡ r.login
     → DayNotAfter p.announcement.day q.day → (query_of n qb).answer ≢ Open
 
 -- the performed delivery ends the login, or evicts it

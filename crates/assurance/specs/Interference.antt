@@ -8,7 +8,7 @@ use Rattle.records.specs.Sheet.{Row, is_sheet, level1, level2, rows_of}
 use Rattle.checkpoint.specs.Checkpoint.{read_checkpoint}
 use Rattle.actions.specs.Perform.{with_standing}
 use Rattle.node.specs.declared.Node.{Node}
-use Rattle.node.specs.declared.DeliverAnswer.TheVariants.{Done, Refused}
+use Rattle.node.specs.DeliverAnswer.{Done, Refused}
 use Rattle.verdicts.specs.Own.{is_halted, own_afresh}
 use Rattle.verdicts.specs.Attempts.{no_misses}
 use Rattle.node.specs.Deliver.{deliver_of}

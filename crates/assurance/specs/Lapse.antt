@@ -13,7 +13,7 @@ use Rattle.records.specs.Sheet.{level1, level2}
 use Rattle.rules.specs.Rules.{time_refusal}
 use Rattle.actions.specs.Claims.{Admitted, Signed}
 use Rattle.node.specs.declared.Node.{Node}
-use Rattle.node.specs.declared.DeliverAnswer.TheVariants.{Done}
+use Rattle.node.specs.DeliverAnswer.{Done}
 use Rattle.node.specs.Deliver.{deliver_of}
 use Rattle.node.specs.Applies.{deliver, at, number_given, Tries, Announces, Applies}
 use Rattle.assurance.specs.Notice.{Listed}

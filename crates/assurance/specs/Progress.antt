@@ -1,17 +1,16 @@
 -- In one state, given one announcement to which no number from 1 to 14 applies: every node that may vote and has not voted otherwise votes, and the
 -- votes of a quorum make every node of that state that isn't halted perform.
-use Rattle.std.specs.Prelude.{◌≡◌, ◌≢◌, ◌⊎◌, true, false, ℕ, ◌≤◌, length}
+use Rattle.std.specs.Prelude.{◌≡◌, ◌≢◌, ◌⊎◌, true, false, ℕ, ◌≤◌, length, Some}
 use mathlib.Core.List.{List, [], Memᴰ, map}
 use Rattle.state.specs.declared.State.{State}
 use Rattle.state.specs.Seats.{present, retired, seat_at, quorum_of}
 use Rattle.lists.specs.Fold.{Distinct}
 use Rattle.records.specs.declared.Announcement.{Announcement}
-use Rattle.records.specs.declared.AnnouncementRead.TheVariants.{Read}
 use Rattle.records.specs.Announcement.{read_announcement}
 use Rattle.records.specs.Sheet.{Row, is_sheet, level1, level2, rows_of}
 use Rattle.actions.specs.Claims.{Admitted}
 use Rattle.node.specs.declared.Node.{Node}
-use Rattle.node.specs.declared.DeliverAnswer.TheVariants.{Voted}
+use Rattle.node.specs.DeliverAnswer.{Voted}
 use Rattle.verdicts.specs.Own.{held_seat}
 use Rattle.node.specs.Deliver.{performs, votes, deliver_of}
 use Rattle.node.specs.Claims.{MayVote}
@@ -21,7 +20,7 @@ use Rattle.records.specs.Sheet.{sheet_of}
 -- None of the numbers 1, 2 and 4 to 14 applies in the state s: the bytes ab are read as the announcement a, the sheet sb is well formed, and no later
 -- rule refuses. Number 3 is about the node: it is halted.
 pub record Unrefused (s : State) (ab sb : List ℕ) (a : Announcement) : Type 0 where
-  pub read : read_announcement ab ≡ Read a
+  pub read : read_announcement ab ≡ Some a
   pub sheet : is_sheet sb ≡ true
   pub admitted : Admitted s a (level1 sb) (level2 sb)
 

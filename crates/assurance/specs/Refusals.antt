@@ -1,22 +1,19 @@
 -- "Refusals return the number, and leave state and buffers unchanged except for the miss just named and its image; a refused start yields no node."
 -- For every call at a host of any cluster, and for every slice.
-use Rattle.std.specs.Prelude.{◌≡◌, ◌≢◌, true, List, ℕ, ◌%◌, ◌≤◌}
+use Rattle.std.specs.Prelude.{◌≡◌, ◌≢◌, true, List, ℕ, ◌%◌, ◌≤◌, Some}
 use Rattle.std.proofs.Math.Option.{some}
 use Rattle.binary.specs.Number.{overwrite}
 use Rattle.state.specs.declared.Cycle.{Cycle}
 use Rattle.state.specs.declared.Day.{Day}
 use Rattle.records.specs.declared.Query.{Query}
-use Rattle.records.specs.declared.QueryRead.TheVariants as Q
 use Rattle.records.specs.StartQuery.{read_query}
-use Rattle.roster.specs.declared.RosterAnswer.TheVariants as Roster
 use Rattle.roster.specs.Calls.{import_of, export_of}
-use Rattle.shares.specs.declared.SplitAnswer.TheVariants as Split
-use Rattle.shares.specs.declared.MergeAnswer.TheVariants as Merge
-use Rattle.shares.specs.declared.AddAnswer.TheVariants as Add
 use Rattle.shares.specs.Calls.{split_of, merge_of, add_of}
+use Rattle.std.specs.Prelude.{Err}
+use Rattle.refusals.specs.declared.Refusal as Row
 use Rattle.node.specs.declared.Node.{Node}
-use Rattle.node.specs.declared.CheckpointAnswer.TheVariants.{Refused}
-use Rattle.node.specs.declared.PageAnswer.TheVariants as Page
+use Rattle.node.specs.CheckpointAnswer.{Refused}
+use Rattle.node.specs.PageAnswer as Page
 use Rattle.node.specs.Checkpoint.{checkpoint_of, checkpoint_slice}
 use Rattle.node.specs.Page.{page_of, page_slice}
 use Rattle.node.specs.Claims.{one_miss_more, no_misses_at}
@@ -71,7 +68,7 @@ Changed w v (through_c i) n m = ImageChanged w v i n m
 -- a query, whose bytes are qb, left its host's node with f of its door; nothing else changed
 pub record Counted (w v : Cluster) (h : Host) (qb : List ℕ) (f : ℕ → Node → Node) : Type 0 where
   pub query : Query
-  pub read : read_query qb ≡ Q.Read query
+  pub read : read_query qb ≡ Some query
   pub node : Node
   pub changed : Changed w v h node (f query.door node)
 
@@ -102,7 +99,7 @@ pub record SlicesKept : Type 0 where
   pub start : (cb sb out : List ℕ) → KeepsSlice out (node_start cb sb out)
   pub deliver : (image ab sb out : List ℕ) → KeepsSlice out (node_deliver image ab sb out)
   pub query : (image qb out : List ℕ) → ¬ AddsMiss (node_query image qb out).number → KeepsSlice out (node_query image qb out)
-  pub miss : (image qb out : List ℕ) → AddsMiss (node_query image qb out).number → (q : Query) × (read_query qb ≡ Q.Read q)
+  pub miss : (image qb out : List ℕ) → AddsMiss (node_query image qb out).number → (q : Query) × (read_query qb ≡ Some q)
       × ((node_query image qb out).slice ≡ overwrite (image_bytes (one_miss_more q.door (read_image image).node)) out)
   pub checkpoint : (image out : List ℕ) → KeepsSlice out (node_checkpoint image out)
   pub checkpoint-by-value : (n : Node) (out : List ℕ) (k : ℕ) → (checkpoint_of n out).answer ≡ Refused k → checkpoint_slice n out ≡ out
@@ -112,19 +109,19 @@ pub record SlicesKept : Type 0 where
   -- and so has what a roster's calls return
   pub roster-import : (roster : List ℕ) (c d : ℕ) (out : List ℕ) → (node_roster_import roster c d out).number % 256 ≢ 0
       → (node_roster_import roster c d out).slice ≡ out
-  pub import-by-value : (text : List ℕ) (c : Cycle) (d : Day) (out : List ℕ) (k : ℕ) → (import_of text c d out).answer ≡ Roster.Refused k
+  pub import-by-value : (text : List ℕ) (c : Cycle) (d : Day) (out : List ℕ) (r : Row.Refusal) → (import_of text c d out).answer ≡ Err r
       → (import_of text c d out).slice ≡ out
   pub roster-export : (announcement out : List ℕ) → (node_roster_export announcement out).number % 256 ≢ 0
       → (node_roster_export announcement out).slice ≡ out
-  pub export-by-value : (announcement out : List ℕ) (k : ℕ) → (export_of announcement out).answer ≡ Roster.Refused k
+  pub export-by-value : (announcement out : List ℕ) (r : Row.Refusal) → (export_of announcement out).answer ≡ Err r
       → (export_of announcement out).slice ≡ out
   -- and what a split returns
   pub shares-split : (key : List ℕ) (k n : ℕ) (cs out : List ℕ) → (node_shares_split key k n cs out).number % 256 ≢ 0
       → (node_shares_split key k n cs out).slice ≡ out
-  pub split-by-value : (key : List ℕ) (k n : ℕ) (cs out : List ℕ) (j : ℕ) → (split_of key k n cs out).answer ≡ Split.Refused j
+  pub split-by-value : (key : List ℕ) (k n : ℕ) (cs out : List ℕ) (r : Row.Refusal) → (split_of key k n cs out).answer ≡ Err r
       → (split_of key k n cs out).slice ≡ out
   pub shares-merge : (k n : ℕ) (numbers shares out : List ℕ) → KeepsSlice out (node_shares_merge k n numbers shares out)
-  pub merge-by-value : (k n : ℕ) (numbers shares out : List ℕ) (j : ℕ) → (merge_of k n numbers shares out).answer ≡ Merge.Refused j
+  pub merge-by-value : (k n : ℕ) (numbers shares out : List ℕ) (r : Row.Refusal) → (merge_of k n numbers shares out).answer ≡ Err r
       → (merge_of k n numbers shares out).slice ≡ out
   pub shares-add : (first second out : List ℕ) → (node_shares_add first second out).number % 256 ≢ 0 → (node_shares_add first second out).slice ≡ out
-  pub add-by-value : (first second out : List ℕ) (j : ℕ) → (add_of first second out).answer ≡ Add.Refused j → (add_of first second out).slice ≡ out
+  pub add-by-value : (first second out : List ℕ) (r : Row.Refusal) → (add_of first second out).answer ≡ Err r → (add_of first second out).slice ≡ out

@@ -116,11 +116,6 @@ month-found leap n d e h =
     let t = simp and-eq-true_iff at (passes-below (is_in_month leap) (cond leap 366 365) (all-in-month leap) n h) in
     rw e (omega (arith, ltb-true, leb-true, eqb-true))
 
--- a year has at most 366 days
-pub year-at-most : (leap : Bool) (n : ℕ) → n < cond leap 366 365 → n < 366
-year-at-most true n h = omega arith
-year-at-most false n h = omega arith
-
 -- the date with this year, this month and this day of the month
 pub date-in-year : (y n d : ℕ) (leap : Bool) → 1970 ≤ y → leap ≡ is_leap y → InMonth leap n d
     → date y (month_at d + 1) (d - month_start (month_at d) + 1) ≡ date_of (years_days (y - 1970) + n)
@@ -151,14 +146,14 @@ days-before : (leap : Bool) (m : ℕ) → m < 12 → months_days leap m ≡ days
 unfolding is_days_before
 days-before leap m h = eqb-true _ _ (passes-below (is_days_before leap) 12 (all-days-before leap) m h)
 
-pub winter-before : (leap : Bool) (m : ℕ) → m < 2 → months_days leap m ≡ month_start m
-winter-before leap m h = days-before leap m (omega arith) ∙ rw (lt-ltb m 2 h)
+pub winter_before : (leap : Bool) (m : ℕ) → m < 2 → months_days leap m ≡ month_start m
+winter_before leap m h = days-before leap m (omega arith) ∙ rw (lt-ltb m 2 h)
 
-pub leap-before : (m : ℕ) → 2 ≤ m → m < 12 → months_days true m ≡ month_start m - 1
-leap-before m h l = days-before true m l ∙ rw (le-ltb m 2 h)
+pub leap_before : (m : ℕ) → 2 ≤ m → m < 12 → months_days true m ≡ month_start m - 1
+leap_before m h l = days-before true m l ∙ rw (le-ltb m 2 h)
 
-pub common-before : (m : ℕ) → 2 ≤ m → m < 12 → months_days false m ≡ month_start m - 2
-common-before m h l = days-before false m l ∙ rw (le-ltb m 2 h)
+pub common_before : (m : ℕ) → 2 ≤ m → m < 12 → months_days false m ≡ month_start m - 2
+common_before m h l = days-before false m l ∙ rw (le-ltb m 2 h)
 
 months-at-most : (leap : Bool) (m : ℕ) → m < 12 → months_days leap m ≤ 366
 months-at-most leap m h =

@@ -1,11 +1,10 @@
 -- "end date as year-month-day in 10", in ASCII: 1970-05-01
 use Rattle.std.specs.Prelude.{ℕ, Bool, cond, ◌&&◌, List, ◌∷◌, ◌++◌, leb, take, drop}
+use Rattle.std.specs.Prelude as Rust
 use Rattle.std.proofs.Math.Option.{Option, none, some}
 use Rattle.binary.specs.Number.{is_same_bytes}
 use Rattle.decimal.specs.Decimal.{padded, number_in}
 use Rattle.calendar.specs.declared.Date.{Date}
-use Rattle.calendar.specs.declared.DayRead.{DayRead}
-use Rattle.calendar.specs.declared.DayRead.TheVariants.{Read, Malformed}
 use Rattle.calendar.specs.Calendar.{date, is_leap, month_days, date_of, day_of}
 
 -- "47481 (2099-12-31)"
@@ -35,7 +34,7 @@ date_in text = date (number_in (take 4 text)) (number_in (take 2 (drop 5 text)))
 unfoldable pub day_in : List ℕ → Option ℕ
 day_in text = let d = date_in text in cond (is_date d && is_same_bytes (date_text d) text) (some (day_of d)) none
 
--- what the code answers
-abbrev pub day_read : DayRead → Option ℕ
-day_read (Read n) = some n
-day_read Malformed = none
+-- what the code answers, as the option that definitions chain
+abbrev pub day_read : Rust.Option ℕ → Option ℕ
+day_read (Rust.Some n) = some n
+day_read Rust.None = none

@@ -17,24 +17,19 @@ pub use reading::{DATE_SIZE, day_in};
 pub const LAST_DAY: u32 = 47481;
 
 // A day of the calendar: month and day are counted from 1.
-#[derive(Clone, Copy)]
+#[derive(Clone, Copy, Debug, PartialEq, Eq)]
 pub struct Date {
     pub year: u16,
     pub month: u8,
     pub day: u8,
 }
 
-// The day of a text, where it is that of a date.
-#[derive(Clone, Copy)]
-pub enum DayRead {
-    Read(u32),
-    Malformed,
-}
-
 // A day of a year, counted from 0, as if February had 30 days, so that one formula serves for all months.
+#[tactic(auto, using(lists::proofs::Cases::cases), unfolding(crate::specs::Code::stretched))]
 fn stretched(leap: bool, day: u32) -> u32
     requires { day < 366 }
-    ensures { result ≡ stretched leap day }
+    ensures value { result ≡ stretched leap day }
+    ensures upper_bound { result ≤ day + 2 }
 {
     if leap {
         if day < 60 {
@@ -78,10 +73,11 @@ pub fn date_of(day: u32) -> Date
 fn digit(x: u16) -> u8
     ensures { result ≡ 48 + x % 10 }
 {
-    48 + (x % 10) as u8
+    b'0' + (x % 10) as u8
 }
 
 // The ten characters of a date.
+#[tactic(auto, unfolding(decimal::specs::Decimal::padded))]
 fn date_text(date: Date) -> [u8; 10]
     ensures { result ≡ date_text date }
 {
@@ -93,16 +89,17 @@ fn date_text(date: Date) -> [u8; 10]
         digit(year / 10 / 10),
         digit(year / 10),
         digit(year),
-        45,
+        b'-',
         digit(month / 10),
         digit(month),
-        45,
+        b'-',
         digit(day / 10),
         digit(day),
     ]
 }
 
 // Writes the ten characters of a day at a position.
+#[tactic(auto, unfolding(crate::specs::Text::day_text))]
 pub fn put_day(out: &mut [u8], at: usize, day: u32)
     requires { (day ≤ last_day) × (at + 10 ≤ length out.old) }
     ensures { out.new ≡ splice out.old at (day_text day) }

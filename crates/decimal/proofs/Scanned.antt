@@ -1,85 +1,83 @@
 -- Digits read one by one from a text.
-use Prim.Native.Nat.{ℕ, zero, suc, ◌+◌, ◌-◌, ◌*◌, ◌^◌, ◌≤◌, ◌<◌}
+use Prim.Native.Nat.{ℕ, zero, suc, ◌+◌, ◌-◌, ◌*◌, ◌^◌, ◌≤◌, ◌<◌, min}
 use native.Mathlib.Numerals.{add-one}
-use native.Mathlib.Nat.{pow-suc, pow-le-pow_right, sub_self}
+use native.Mathlib.Nat.{pow-suc, pow-le-pow_right}
 use native.Mathlib.Omega.{arith}
 use mathlib.Core.Path.{◌≡◌, refl, sym, ap, ◌∙◌}
-use mathlib.Core.Bool.{Bool, true, false, ◌&&◌, and-eq-true_iff}
+use mathlib.Core.Bool.{Bool, true, false, cond, and-eq-true_iff}
 use mathlib.Core.List.{List, [], ◌∷◌, ◌++◌}
-use lib.Dec.{leb, ltb}
+use lib.Dec.{leb}
 use lib.ListN.{length, get_or, drop, drop_of_length-le}
 use lib.Seq.{drop-cons}
-use borrow.Author.Tests.{leb-true, ltb-true, ltb-false, lt-ltb}
+use borrow.Author.Tests.{leb-true, leb-false}
 use Rattle.lists.specs.Fold.{all}
 use Rattle.decimal.specs.Decimal.{is_digit, number_from}
 use Rattle.decimal.specs.Code.{most_read, digits_in}
 
--- the digits from index `at` to index i are read as the value, and at most `left` of them are still to be read
-pub record Scanned (text : List ℕ) (at most value i left : ℕ) : Type 0 where
-  pub few : left ≤ most
-  pub below : value < 10 ^ (most - left)
-  pub same : digits_in left value (drop i text) ≡ digits_in most 0 (drop at text)
-
-pub scanned-none : (text : List ℕ) (at most : ℕ) → Scanned text at most 0 at most
-scanned-none text at most = record { few = omega arith; below = rw sub_self (omega arith); same = refl }
+-- the digits from index `at` to index i are read as the value
+pub record Scanned (text : List ℕ) (at most value i : ℕ) : Type 0 where
+  pub below : value < 10 ^ (i - at)
+  pub same : digits_in (at + most - i) value (drop i text) ≡ digits_in most 0 (drop at text)
 
 -- a digit more has a power more
 digit-below : (v d n : ℕ) → v < 10 ^ n → d < 10 → 10 * v + d < 10 ^ suc n
 digit-below v d n h k = rw pow-suc (omega arith)
 
 -- a value with a digit still to come is short enough to take it
-pub scanned-short : {text : List ℕ} {at most value i left : ℕ} → Scanned text at most value i left → most ≤ most_read → value < 10 ^ most_read
-scanned-short {most = most} {left = left} s h =
-    let p : 10 ^ (most - left) ≤ 10 ^ most_read = pow-le-pow_right {n = 10} (omega arith) {i = most - left} {j = most_read} (omega arith) in
+pub scanned-short : {text : List ℕ} {at most value i : ℕ} → Scanned text at most value i → i < at + most → most ≤ most_read → value < 10 ^ most_read
+scanned-short {at = at} {most = most} {i = i} s l h =
+    let p : 10 ^ (i - at) ≤ 10 ^ most_read = pow-le-pow_right {n = 10} (omega arith) {i = i - at} {j = most_read} (omega arith) in
     omega (arith, s.below)
-
--- the loop goes on
-pub scanned-more : {text : List ℕ} {at most value i left : ℕ} → Scanned text at most value i left → (ltb 0 left && ltb i (length text)) ≡ true
-    → (0 < left) × (i < length text)
-scanned-more {text = text} {i = i} {left = left} s e =
-    let b = (and-eq-true_iff (ltb 0 left) (ltb i (length text))).0 e in
-    (ltb-true _ _ b.0, ltb-true _ _ b.1)
 
 -- what a digit is
 pub digit-range : (c : ℕ) → is_digit c ≡ true → (48 ≤ c) × (c ≤ 57)
 digit-range c e = let b = (and-eq-true_iff (leb 48 c) (leb c 57)).0 e in (leb-true _ _ b.0, leb-true _ _ b.1)
 
-module _ {text : List ℕ} {at most value i : ℕ} (h : i < length text) where
-  pub scanned-one : {left : ℕ} → Scanned text at most value i left → 0 < left → is_digit (get_or text i 0) ≡ true
-      → Scanned text at most (10 * value + (get_or text i 0 - 48)) (i + 1) (left - 1)
-  unfolding digits_in
-  scanned-one {left = zero} s k e = absurd (omega arith)
-  scanned-one {left = suc left} s k e =
-      let range = digit-range (get_or text i 0) e in
-      let l : suc left - 1 ≡ left = omega arith in
-      let p : suc (most - suc left) ≡ most - left = omega (arith, s.few) in
-      let turn : digits_in (suc left) value (drop i text) ≡ digits_in left (10 * value + (get_or text i 0 - 48)) (drop (i + 1) text) =
-      rw (drop-cons text i 0 h, e, add-one) in
-      rw l (record {
-        few = omega (arith, s.few);
-        below = rw (sym p) (digit-below value (get_or text i 0 - 48) (most - suc left) s.below (omega arith));
-        same = sym turn ∙ s.same;
-      })
-
-  -- a character that is no digit ends the number
-  pub scanned-other : {left : ℕ} → Scanned text at most value i left → is_digit (get_or text i 0) ≡ false
-      → (value, drop i text) ≡ digits_in most 0 (drop at text)
-  unfolding digits_in
-  scanned-other {left = zero} s e = s.same
-  scanned-other {left = suc left} s e =
-      let turn : digits_in (suc left) value (drop i text) ≡ (value, drop i text) = rw (drop-cons text i 0 h, e) in
-      sym turn ∙ s.same
-
--- and so does the end of the text, or the last digit that is asked for
-pub scanned-all : {text : List ℕ} {at most value i left : ℕ} → Scanned text at most value i left → (ltb 0 left && ltb i (length text)) ≡ false
-    → (value, drop i text) ≡ digits_in most 0 (drop at text)
+-- no text has no digits
+nothing-read : (n v : ℕ) → digits_in n v [] ≡ (v, [])
 unfolding digits_in
-scanned-all {left = zero} s e = s.same
-scanned-all {text = text} {value = value} {i = i} {left = suc left} s e =
-    let e' : ltb i (length text) ≡ false = rw (lt-ltb 0 (suc left) (omega arith)) at e in
-    let none = drop_of_length-le text {i = i} (ltb-false _ _ e') in
-    let turn : digits_in (suc left) value (drop i text) ≡ (value, drop i text) = rw none in
-    sym turn ∙ s.same
+nothing-read zero v = refl
+nothing-read (suc n) v = refl
+
+module _ {text : List ℕ} {at most value i : ℕ} (s : Scanned text at most value i) where
+  module _ (from : at ≤ i) (to : i < at + most) (h : i < length text) where
+    turn : (b : Bool) → is_digit (get_or text i 0) ≡ b → digits_in (at + most - i) value (drop i text)
+        ≡ cond b (digits_in (at + most - (i + 1)) (10 * value + (get_or text i 0 - 48)) (drop (i + 1) text)) (value, drop i text)
+    unfolding digits_in
+    turn b e =
+        let n : at + most - i ≡ suc (at + most - (i + 1)) = omega arith in
+        rw (n, drop-cons text i 0 h, e, add-one)
+
+    pub scanned-one : is_digit (get_or text i 0) ≡ true → Scanned text at most (10 * value + (get_or text i 0 - 48)) (i + 1)
+    scanned-one e =
+        let range = digit-range (get_or text i 0) e in
+        let n : i + 1 - at ≡ suc (i - at) = omega arith in
+        record {
+          below = rw n (digit-below value (get_or text i 0 - 48) (i - at) s.below (omega arith));
+          same = sym (turn true e) ∙ s.same;
+        }
+
+    -- a character that is no digit ends the number
+    pub scanned-other : is_digit (get_or text i 0) ≡ false → (value, drop i text) ≡ digits_in most 0 (drop at text)
+    scanned-other e = sym (turn false e) ∙ s.same
+
+  -- and so does the last digit that is asked for, or the end of the text
+  pub scanned-all : (end : ℕ) → end ≤ i → (at ≤ end → i ≤ end) → end ≡ min (at + most) (length text)
+      → (value, drop end text) ≡ digits_in most 0 (drop at text)
+  unfolding digits_in
+  scanned-all end l f e = go (leb (length text) end) refl
+    where
+      go : (b : Bool) → leb (length text) end ≡ b → (value, drop end text) ≡ digits_in most 0 (drop at text)
+      go true q =
+          let past = leb-true _ _ q in
+          let none = drop_of_length-le text {i = end} past in
+          let none' = drop_of_length-le text {i = i} (omega arith) in
+          rw (none, ← nothing-read (at + most - i) value) (rw none' at s.same)
+      go false q =
+          let within = leb-false _ _ q in
+          let last : i ≡ end = omega arith in
+          let n : at + most - i ≡ 0 = omega arith in
+          rw (← last) (rw n at s.same)
 
 -- ---- what was read
 

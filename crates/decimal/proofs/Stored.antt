@@ -3,11 +3,12 @@ use Prim.Native.Nat.{ℕ, zero, suc, ◌+◌, ◌-◌, ◌*◌, ◌/◌, ◌%◌
 use native.Mathlib.Omega.{arith}
 use native.Mathlib.Nat.{suc-add, pow-suc}
 use mathlib.Core.Path.{◌≡◌, refl, sym, ap, ◌∙◌}
-use mathlib.Core.Bool.{true, false, cond, ◌&&◌, and-eq-true_iff}
-use mathlib.Core.List.{List, [], ◌∷◌, ◌++◌, append_assoc, append-nil}
-use lib.Dec.{ltb, leb}
-use lib.ListN.{length, set, replicate, length-set, length-append, length-replicate}
-use borrow.Author.Tests.{ltb-true, ltb-false, leb-true, lt-ltb, le-ltb, le-leb}
+use mathlib.Core.Bool.{cond}
+use mathlib.Core.List.{List, [], ◌∷◌, ◌++◌, append_assoc}
+use lib.Dec.{ltb}
+use lib.ListN.{length, drop, set, replicate, length-append, length-replicate}
+use lib.Seq.{drop_at}
+use borrow.Author.Tests.{lt-ltb, le-ltb}
 use Rattle.lists.proofs.Tests.{cond_cases}
 use Rattle.decimal.specs.Decimal.{digits, most_digits, decimal}
 use Rattle.decimal.specs.Claims.{NoDigitLeftOut}
@@ -22,61 +23,49 @@ next-digit : (k x : ℕ) (t : List ℕ) → 10 ≤ x → digits (suc k) x ++ t �
 unfolding digits
 next-digit k x t e = rw (le-ltb _ _ e) (append_assoc (digits k (x / 10)) ((48 + x % 10) ∷ []) t)
 
-last_one : (k x : ℕ) → (10 ≤ x → k ≡ 0) → digits (suc k) x ≡ (48 + x % 10) ∷ []
-unfolding digits
-last_one k x f =
-    cond_cases (λ l. l ≡ (48 + x % 10) ∷ []) (ltb x 10)
-    (λ t. let h = ltb-true x 10 t in ap (λ (n : ℕ). n ∷ []) (omega arith))
-    (λ t. rw (f (ltb-false x 10 t)) refl)
-
 -- the digits of x from index `from` up to the end stand in l after spaces, and those of `rest` are still to be stored in front of them
 pub record Stored (x from rest : ℕ) (l : List ℕ) : Type 0 where
-  pub one : 1 ≤ from
-  pub within : from ≤ most_digits
-  pub size : length l ≡ most_digits
   pub stored : List ℕ
   pub spaces : l ≡ replicate from 32 ++ stored
   pub joined : digits from rest ++ stored ≡ decimal x
 
-pub stored-none : (x : ℕ) → Stored x most_digits x (replicate most_digits 32)
-stored-none x = record {
-  one = omega arith;
-  within = omega arith;
-  size = refl;
-  stored = [];
-  spaces = refl;
-  joined = append-nil (decimal x);
-}
+-- the digits of x, behind spaces
+pub record AreDigits (x from : ℕ) (l : List ℕ) : Type 0 where
+  pub text : drop from l ≡ decimal x
+  pub spaces : l ≡ replicate from 32 ++ drop from l
 
-pub stored_one : (x from rest : ℕ) (l : List ℕ) → Stored x from rest l → (leb 10 rest && ltb 1 from) ≡ true
-    → Stored x (from - 1) (rest / 10) (set l (from - 1) (48 + rest % 10))
-stored_one x zero rest l h t = absurd (let z = h.one in omega arith)
-stored_one x (suc k) rest l h t =
-    let b = simp and-eq-true_iff at t in
-    let more : 1 < suc k = ltb-true _ _ b.1 in
-    let e : suc k - 1 ≡ k = omega arith in
-    rw e (record {
-      one = omega arith;
-      within = omega (arith, h.within);
-      size = length-set l k (48 + rest % 10) ∙ h.size;
-      stored = (48 + rest % 10) ∷ h.stored;
-      spaces = rw h.spaces (one-stored k (48 + rest % 10) h.stored);
-      joined = sym (next-digit k rest h.stored (leb-true _ _ b.0)) ∙ h.joined;
-    })
+are-digits : (x from : ℕ) (l : List ℕ) → l ≡ replicate from 32 ++ decimal x → AreDigits x from l
+are-digits x from l e =
+    let text : drop from l ≡ decimal x = ap (drop from) e ∙ drop_at (replicate from 32) (decimal x) from (length-replicate from 32) in
+    record { text = text; spaces = rw text e }
 
--- the digit in front is stored
-pub stored-all : (x from rest : ℕ) (l : List ℕ) → Stored x from rest l → (leb 10 rest && ltb 1 from) ≡ false
-    → let l' = set l (from - 1) (48 + rest % 10) in
-    (l' ≡ replicate (from - 1) 32 ++ decimal x) × (from - 1 + length (decimal x) ≡ most_digits)
-stored-all x zero rest l h t = absurd (let z = h.one in omega arith)
-stored-all x (suc k) rest l h t =
-    let first : 10 ≤ rest → k ≡ 0 =
-    λ m. (let u = rw (le-leb _ _ m) at t in let v : suc k ≤ 1 = ltb-false _ _ u in omega arith) in
-    let e : suc k - 1 ≡ k = omega arith in
-    let d : (48 + rest % 10) ∷ h.stored ≡ decimal x = ap (λ (q : List ℕ). q ++ h.stored) (sym (last_one k rest first)) ∙ h.joined in
-    let s : set l k (48 + rest % 10) ≡ replicate k 32 ++ decimal x = rw (h.spaces, one-stored k (48 + rest % 10) h.stored, d) in
-    let n = simp (length-append, length-replicate, length-set) at (ap length s) in
-    rw e (s, omega (arith, h.size))
+module _ (x rest : ℕ) (l : List ℕ) where
+  -- the loop goes on
+  pub stored_one : (from : ℕ) → Stored x from rest l → 0 < from → 10 ≤ rest → Stored x (from - 1) (rest / 10) (set l (from - 1) (48 + rest % 10))
+  stored_one zero h p t = absurd (omega arith)
+  stored_one (suc k) h p t =
+      let e : suc k - 1 ≡ k = omega arith in
+      rw e (record {
+        stored = (48 + rest % 10) ∷ h.stored;
+        spaces = rw (h.spaces, one-stored k (48 + rest % 10) h.stored);
+        joined = sym (next-digit k rest h.stored t) ∙ h.joined;
+      })
+
+  -- the first digit is stored
+  pub stored-last : (from : ℕ) → Stored x from rest l → 0 < from → rest < 10 → AreDigits x (from - 1) (set l (from - 1) (48 + rest % 10))
+  unfolding digits
+  stored-last zero h p t = absurd (omega arith)
+  stored-last (suc k) h p t =
+      let e : suc k - 1 ≡ k = omega arith in
+      let one : 48 + rest % 10 ≡ 48 + rest = omega arith in
+      let d : (48 + rest) ∷ h.stored ≡ decimal x = rw (lt-ltb rest 10 t) at h.joined in
+      rw (e, one) (are-digits x k _ (rw (h.spaces, one-stored k (48 + rest) h.stored, d)))
+
+  -- all places are taken
+  pub stored-all : (from : ℕ) → Stored x from rest l → from ≤ 0 → AreDigits x 0 l
+  unfolding digits
+  stored-all (suc k) h z = absurd (omega arith)
+  stored-all zero h z = are-digits x 0 l (h.spaces ∙ h.joined)
 
 -- ---- how many
 

@@ -1,41 +1,34 @@
 -- Numbers as texts: how long they are, and that they are read back.
 use Prim.Native.Nat.{ℕ, zero, suc, ◌+◌, ◌-◌, ◌*◌, ◌/◌, ◌%◌, ◌^◌, ◌≤◌, ◌<◌}
 use native.Mathlib.Omega.{arith}
-use native.Mathlib.Nat.{sub_self, pow-suc}
+use native.Mathlib.Nat.{pow-suc}
 use mathlib.Core.Path.{◌≡◌, refl, sym, ap, ◌∙◌}
 use mathlib.Core.Bool.{cond}
 use mathlib.Core.List.{List, [], ◌∷◌, ◌++◌, append_assoc}
 use lib.Dec.{ltb}
-use lib.ListN.{length, take, drop, replicate, length-append, length-drop, length-replicate, replicate-append-replicate}
-use lib.Seq.{take_all, drop_at}
+use lib.ListN.{length, drop, replicate, length-append, length-drop, length-replicate, replicate-append-replicate}
+use lib.Seq.{drop_at}
 use borrow.Author.Tests.{ltb-true, lt-ltb, le-leb}
 use Rattle.lists.proofs.Tests.{cond_cases}
-use Rattle.decimal.specs.Decimal.{digits, most_digits, decimal, aligned, padded, is_digit, number_from, number_in}
+use Rattle.decimal.specs.Decimal.{digits, most_digits, decimal, padded, is_digit, number_from, number_in}
 use Rattle.decimal.specs.Claims.{AlignedReadBack, PaddedReadBack}
 use Rattle.decimal.proofs.Stored.{decimal-below, length-below}
 
 abbrev spaces : ℕ → List ℕ
 spaces n = replicate n 32
 
--- the places from index k on of a number that is right-aligned in the most places, as code takes them from the array
-module _ (x from : ℕ) (b : List ℕ) (e : b ≡ spaces from ++ decimal x) (f : from + length (decimal x) ≡ most_digits) where
-  pub all-places : length b ≡ most_digits
-  all-places = let z = simp (length-append, length-replicate) at (ap length e) in omega arith
-
-  pub last-places : (k w : ℕ) → k + w ≡ most_digits → length (decimal x) ≤ w → take (most_digits - k) (drop k b) ≡ aligned w x
-  last-places k w s h =
-      let n : ℕ = w - length (decimal x) in
-      let m : from ≡ k + n = omega arith in
-      let r : spaces from ≡ spaces k ++ spaces n = ap spaces m ∙ sym (replicate-append-replicate k n 32) in
-      let p : b ≡ spaces k ++ aligned w x =
-      e ∙ ap (λ (l : List ℕ). l ++ decimal x) r ∙ append_assoc (spaces k) (spaces n) (decimal x) in
-      let z = all-places in
-      take_all (most_digits - k) (drop k b) (simp length-drop (omega arith))
-      ∙ ap (drop k) p
-      ∙ drop_at (spaces k) (aligned w x) k (length-replicate k 32)
-
-  pub all_digits : take (most_digits - from) (drop from b) ≡ decimal x
-  all_digits = last-places from (length (decimal x)) f (omega arith) ∙ rw sub_self
+-- the last w places, where digits stand behind spaces
+pub last-places : (from w : ℕ) (b : List ℕ) → length b ≡ most_digits → from ≤ most_digits → b ≡ spaces from ++ drop from b
+    → length (drop from b) ≤ w → w ≤ most_digits → drop (most_digits - w) b ≡ spaces (w - length (drop from b)) ++ drop from b
+last-places from w b h within e long short =
+    let k : ℕ = most_digits - w in
+    let d : List ℕ = drop from b in
+    let size : length d ≡ most_digits - from = rw (length-drop, h) in
+    let m : from ≡ k + (w - length d) = omega arith in
+    let r : spaces from ≡ spaces k ++ spaces (w - length d) = ap spaces m ∙ sym (replicate-append-replicate k (w - length d) 32) in
+    let p : b ≡ spaces k ++ (spaces (w - length d) ++ d) =
+    e ∙ ap (λ (l : List ℕ). l ++ d) r ∙ append_assoc (spaces k) (spaces (w - length d)) d in
+    ap (drop k) p ∙ drop_at (spaces k) (spaces (w - length d) ++ d) k (length-replicate k 32)
 
 -- ---- what is read
 

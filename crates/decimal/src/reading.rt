@@ -1,19 +1,12 @@
 // Numbers read from decimal digits.
-ghost use Rattle.std.specs.Prelude.{◌≡◌, ◌+◌, ◌-◌, ◌*◌, ◌^◌, ◌≤◌, ◌<◌, drop};
-ghost use Rattle.decimal.specs.Decimal.{is_digit};
+ghost use Rattle.std.specs.Prelude.{◌≡◌, ◌+◌, ◌-◌, ◌*◌, ◌^◌, ◌≤◌, ◌<◌, length, drop};
 ghost use Rattle.decimal.specs.Code.{digits_in, most_read};
 
 // A number that was read, and where its digits end.
-#[derive(Clone, Copy)]
+#[derive(Clone, Copy, Debug, PartialEq, Eq)]
 pub struct Number {
     pub value: u64,
     pub end: usize,
-}
-
-pub fn is_digit(c: u8) -> bool
-    ensures { result ≡ is_digit c }
-{
-    (48 <= c) & (c <= 57)
 }
 
 // The number that goes on with a digit.
@@ -21,31 +14,25 @@ fn with_digit(value: u64, c: u8) -> u64
     requires { (48 ≤ c) × ((c ≤ 57) × (value < 10 ^ most_read)) }
     ensures { result ≡ 10 * value + (c - 48) }
 {
-    10 * value + ((c - 48) as u64)
+    10 * value + ((c - b'0') as u64)
 }
 
 // Reads the digits at a position, up to as many as told.
 pub fn number_at(text: &[u8], at: usize, most: usize) -> Number
     requires { most ≤ most_read }
-    ensures { (result.value, drop result.end text.now) ≡ digits_in most 0 (drop at text.now) }
+    ensures value { (result.value, drop result.end text.now) ≡ digits_in most 0 (drop at text.now) }
+    ensures bound { result.end ≤ length text.now }
 {
     let mut value: u64 = 0;
-    let mut i = at;
-    let mut left = most;
-    while (left > 0) & (i < text.len()) {
-        let c = text[i];
-        if !is_digit(c) {
-            return Number {
-                value: value,
-                end: i,
-            };
+    let most_end = at.saturating_add(most).min(text.len());
+    for end in at..most_end {
+        if !text[end].is_ascii_digit() {
+            return Number { value, end };
         }
-        value = with_digit(value, c);
-        i += 1;
-        left -= 1;
+        value = with_digit(value, text[end]);
     }
     Number {
-        value: value,
-        end: i,
+        value,
+        end: most_end,
     }
 }

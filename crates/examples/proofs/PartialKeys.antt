@@ -10,7 +10,7 @@ use lib.ListN.{replicate}
 use Rattle.lists.specs.Fold.{any, all}
 use Rattle.binary.specs.Number.{Bytes, overwrite}
 use Rattle.gf256.specs.Field.{add, times, remainder, mul, power, inverse}
-use Rattle.shares.specs.declared.MergeAnswer.TheVariants as Merge
+use Rattle.std.specs.Prelude.{Ok}
 use Rattle.shares.specs.Polynomial.{eval}
 use Rattle.shares.specs.Shares.{tabulate, joined, share_of, shares_of, bytes_of, merged_key, are_numbers}
 use Rattle.shares.specs.Calls.{split_of, merge_of}
@@ -33,11 +33,11 @@ bytes-by-test (x ∷ l) e zero = ltb-true x 256 ((and-eq-true_iff (ltb x 256) (a
 bytes-by-test (x ∷ l) e (suc i) = bytes-by-test l ((and-eq-true_iff (ltb x 256) (all (λ y. ltb y 256) l)).0 e).1 i
 
 pub merges-to : (shares out merged : List ℕ) → all (λ x. ltb x 256) shares ≡ true → merge_fits 2 3 numbers shares out ≡ true
-    → weighed_key (0x8D ∷ 0x8C ∷ []) shares ≡ merged → merge_of 2 3 numbers shares out ≡ record { answer = Merge.Given; slice = overwrite merged out }
+    → weighed_key (0x8D ∷ 0x8C ∷ []) shares ≡ merged → merge_of 2 3 numbers shares out ≡ record { answer = Ok tt; slice = overwrite merged out }
 unfolding are_numbers any
 merges-to shares out merged b f e =
     merge-given 2 3 numbers shares out refl refl f
-    ∙ ap (λ (l : List ℕ). record { answer = Merge.Given; slice = overwrite l out })
+    ∙ ap (λ (l : List ℕ). record { answer = Ok tt; slice = overwrite l out })
     (sym (merged-key numbers shares (bytes-by-test shares b)) ∙ ap (λ (ws : List ℕ). weighed_key ws shares) weights-are ∙ e)
 
 -- what stands behind the first two numbers is not looked at

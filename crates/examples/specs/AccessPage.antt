@@ -7,7 +7,7 @@ use Rattle.tables.specs.Logins.{find_login}
 use Rattle.page.specs.declared.Word.{Word}
 use Rattle.page.specs.declared.Word.TheVariants.{Open, Ended, Silent}
 use Rattle.page.specs.Page.{word_of, end_shown, is_silent_on, page_text}
-use Rattle.node.specs.declared.PageAnswer.TheVariants.{Given}
+use Rattle.node.specs.PageAnswer.{Given}
 use Rattle.node.specs.Page.{page_of, page_slice}
 use Rattle.examples.specs.TableOfNo.{first_state, full_logins, started, granted}
 

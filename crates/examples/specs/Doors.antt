@@ -1,8 +1,8 @@
 -- "A door each": computed queries at four doors.
 use Rattle.std.specs.Prelude.{◌≡◌, List, [], ◌∷◌, map, ℕ, replicate, set}
 use Rattle.node.specs.declared.Node.{Node}
-use Rattle.node.specs.declared.QueryAnswer.{QueryAnswer}
-use Rattle.node.specs.declared.QueryAnswer.TheVariants.{Open, Refused}
+use Rattle.node.specs.QueryAnswer.{QueryAnswer}
+use Rattle.node.specs.QueryAnswer.{Open, Refused}
 use Rattle.node.specs.Deliver.{deliver_of}
 use Rattle.node.specs.Query.{with_counts, query_of}
 use Rattle.examples.specs.Records.{announce, grant501, two_votes, query, query_at}

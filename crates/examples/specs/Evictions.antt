@@ -9,9 +9,9 @@ use Rattle.tables.specs.Logins.{is_listed, end_login}
 use Rattle.records.specs.declared.Action.{Action}
 use Rattle.records.specs.declared.Action.TheVariants.{Grant, End}
 use Rattle.node.specs.declared.Node.{Node}
-use Rattle.node.specs.declared.DeliverReply.{DeliverReply}
-use Rattle.node.specs.declared.DeliverAnswer.TheVariants.{Done, Voted, Refused}
-use Rattle.node.specs.declared.QueryAnswer.TheVariants as Query
+use Rattle.node.specs.Reply.{DeliverReply}
+use Rattle.node.specs.DeliverAnswer.{Done, Voted, Refused}
+use Rattle.node.specs.QueryAnswer as Query
 use Rattle.node.specs.Deliver.{deliver_of}
 use Rattle.node.specs.Query.{query_of}
 use Rattle.examples.specs.Records.{announce, grant501, unvoted, two_votes, query}

@@ -9,8 +9,8 @@ use Rattle.state.specs.Subjects.{removes}
 use Rattle.state.specs.Update.{with_time, with_proposals}
 use Rattle.records.specs.declared.Action.{Action}
 use Rattle.records.specs.declared.Action.TheVariants.{Propose, Remove, Grant, End}
-use Rattle.node.specs.declared.DeliverReply.{DeliverReply}
-use Rattle.node.specs.declared.DeliverAnswer.TheVariants.{Done, Voted, Refused}
+use Rattle.node.specs.Reply.{DeliverReply}
+use Rattle.node.specs.DeliverAnswer.{Done, Voted, Refused}
 use Rattle.node.specs.Deliver.{deliver_of}
 use Rattle.examples.specs.Records.{announce, unvoted, two_votes}
 use Rattle.examples.specs.TableOfNo.{first_state, full_proposals, numbered, proposal_of, started}

@@ -9,10 +9,10 @@ use Rattle.records.specs.declared.Action.TheVariants.{Propose, Remove, Rejoin}
 use Rattle.records.specs.declared.Action.TheVariants as case
 use Rattle.checkpoint.specs.Checkpoint.{checkpoint_bytes}
 use Rattle.node.specs.declared.Node.{Node}
-use Rattle.node.specs.declared.DeliverReply.{DeliverReply}
-use Rattle.node.specs.declared.DeliverAnswer.{DeliverAnswer}
-use Rattle.node.specs.declared.DeliverAnswer.TheVariants.{Done, Refused}
-use Rattle.node.specs.declared.StartAnswer.TheVariants as Start
+use Rattle.node.specs.Reply.{DeliverReply}
+use Rattle.node.specs.DeliverAnswer.{DeliverAnswer}
+use Rattle.node.specs.DeliverAnswer.{Done, Refused}
+use Rattle.node.specs.StartAnswer as Start
 use Rattle.node.specs.Start.{start_of}
 use Rattle.node.specs.Deliver.{deliver_of}
 use Rattle.examples.specs.Records.{first_checkpoint, start_seat0, announce, two_votes}

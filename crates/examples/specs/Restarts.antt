@@ -10,8 +10,8 @@ use Rattle.state.specs.Update.{with_time, with_proposals}
 use Rattle.records.specs.declared.Action.TheVariants.{Rejoin}
 use Rattle.records.specs.Sheet.{sheet_of}
 use Rattle.node.specs.declared.Node.{Node}
-use Rattle.node.specs.declared.DeliverReply.{DeliverReply}
-use Rattle.node.specs.declared.DeliverAnswer.TheVariants.{Done, Voted, Refused}
+use Rattle.node.specs.Reply.{DeliverReply}
+use Rattle.node.specs.DeliverAnswer.{Done, Voted, Refused}
 use Rattle.node.specs.Deliver.{deliver_of}
 use Rattle.examples.specs.Records.{announce, vote, unvoted, two_votes}
 use Rattle.examples.specs.TableOfNo.{first_state, started, proposed}

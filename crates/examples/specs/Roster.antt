@@ -1,11 +1,11 @@
 -- A roster with a quoted line, its grants, the line of a grant, and the edges of lines, fields and cycles.
-use Rattle.std.specs.Prelude.{◌≡◌, List, [], ◌∷◌, ◌++◌, map, ℕ, zero, suc, replicate}
+use Rattle.std.specs.Prelude.{◌≡◌, List, [], ◌∷◌, ◌++◌, map, ℕ, zero, suc, replicate, Result, Ok, Err}
 use Rattle.std.proofs.Math.Option.{some}
 use Rattle.state.specs.declared.Login.{Login}
 use Rattle.state.specs.Time.{day, cycle}
 use Rattle.records.specs.declared.Action.TheVariants.{Grant, End}
-use Rattle.roster.specs.declared.RosterAnswer.{RosterAnswer}
-use Rattle.roster.specs.declared.RosterAnswer.TheVariants.{Given, Refused}
+use Rattle.refusals.specs.declared.Refusal.{Refusal}
+use Rattle.refusals.specs.declared.Refusal.TheVariants.{BadRoster, NoRosterRoom}
 use Rattle.roster.specs.Roster.{roster_in}
 use Rattle.roster.specs.Calls.{import_of, export_of}
 use Rattle.examples.specs.Records.{announce}
@@ -77,10 +77,10 @@ abbrev pub last_row : Login
 last_row = record { login = 4294967295; end = day 47481; rights = 65535 }
 
 -- the answer to a text for a cycle, with room for all
-abbrev pub answer_in : List ℕ → ℕ → RosterAnswer
+abbrev pub answer_in : List ℕ → ℕ → Result ℕ Refusal
 answer_in text c = (import_of text (cycle c) (day 101) (replicate 1536 0)).answer
 
-abbrev pub answer_to : List ℕ → RosterAnswer
+abbrev pub answer_to : List ℕ → Result ℕ Refusal
 answer_to text = answer_in text 7
 
 pub record RosterExamples : Type 0 where
@@ -88,15 +88,15 @@ pub record RosterExamples : Type 0 where
   pub read : roster_in two_lines ≡ some (row501 ∷ last_row ∷ [])
   -- "cycles rising by one from a given one", "a longer one keeps its tail"
   pub grants : import_of two_lines (cycle 7) (day 101) (replicate 49 0)
-      ≡ record { answer = Given 2; slice = announce 7 101 (Grant row501) ++ (announce 8 101 (Grant last_row) ++ (0 ∷ [])) }
+      ≡ record { answer = Ok 2; slice = announce 7 101 (Grant row501) ++ (announce 8 101 (Grant last_row) ++ (0 ∷ [])) }
   -- "24 comes before 25."
-  pub too_short : (import_of two_lines (cycle 7) (day 101) (replicate 47 0)).answer ≡ Refused 25
-  pub malformed-first : (import_of cr_lf (cycle 7) (day 101) []).answer ≡ Refused 24
+  pub too_short : (import_of two_lines (cycle 7) (day 101) (replicate 47 0)).answer ≡ Err NoRosterRoom
+  pub malformed-first : (import_of cr_lf (cycle 7) (day 101) []).answer ≡ Err BadRoster
   -- "An empty file has no lines.", in any cycle; "cycles running past 4294967294"
-  pub empty : answer_in [] 4294967295 ≡ Given 0
-  pub cycles : map (answer_in line501) (0 ∷ 4294967294 ∷ 4294967295 ∷ []) ≡ Given 1 ∷ Given 1 ∷ Refused 24 ∷ []
+  pub empty : answer_in [] 4294967295 ≡ Ok 0
+  pub cycles : map (answer_in line501) (0 ∷ 4294967294 ∷ 4294967295 ∷ []) ≡ Ok 1 ∷ Ok 1 ∷ Err BadRoster ∷ []
   -- "up to 64 lines"
-  pub lines : map (λ n. answer_to (copies n)) (63 ∷ 64 ∷ 65 ∷ []) ≡ Given 63 ∷ Given 64 ∷ Refused 24 ∷ []
+  pub lines : map (λ n. answer_to (copies n)) (63 ∷ 64 ∷ 65 ∷ []) ≡ Ok 63 ∷ Ok 64 ∷ Err BadRoster ∷ []
   -- ten digits with zeros in front, every field quoted, a leap day
   pub accepted :
       map answer_to
@@ -104,19 +104,19 @@ pub record RosterExamples : Type 0 where
       ∷ line (quoted login501) (quoted may1970) (quoted right0)
       ∷ line login501 leap_day right0
       ∷ [])
-      ≡ replicate 3 (Given 1)
+      ≡ replicate 3 (Ok 1)
   -- lines: CR LF alone, an LF and a CR without the other, two fields and four
   pub refused-lines :
       map answer_to (cr_lf ∷ (line501 ++ (10 ∷ [])) ∷ (line501 ++ (13 ∷ [])) ∷ (login501 ++ (44 ∷ may1970)) ∷ (line501 ++ (44 ∷ [])) ∷ [])
-      ≡ replicate 5 (Refused 24)
+      ≡ replicate 5 (Err BadRoster)
   -- quoting: no last quote, something behind it, a quote in a field
   pub refused-quotes :
       map (λ l. answer_to (line l may1970 right0)) ((34 ∷ login501) ∷ (quoted login501 ++ (32 ∷ [])) ∷ quoted (34 ∷ 34 ∷ login501) ∷ [])
-      ≡ replicate 3 (Refused 24)
+      ≡ replicate 3 (Err BadRoster)
   -- logins: none, 0, 4294967296, eleven digits, a space in front
   pub refused-logins :
       map (λ l. answer_to (line l may1970 right0)) ([] ∷ (48 ∷ []) ∷ after_last_login ∷ (replicate 8 48 ++ login501) ∷ (32 ∷ login501) ∷ [])
-      ≡ replicate 5 (Refused 24)
+      ≡ replicate 5 (Err BadRoster)
   -- dates and rights: a leap day of another year, 2100-01-01, zero, three digits and five
   pub refused-values :
       map answer_to
@@ -126,10 +126,10 @@ pub record RosterExamples : Type 0 where
       ∷ line login501 may1970 (48 ∷ 48 ∷ 49 ∷ [])
       ∷ line login501 may1970 (48 ∷ right0)
       ∷ [])
-      ≡ replicate 5 (Refused 24)
+      ≡ replicate 5 (Err BadRoster)
   -- "A grant exports as one line .. ended by CR LF, and gives its length"
-  pub exports : export_of (announce 7 101 (Grant row501)) (replicate 22 0) ≡ record { answer = Given 21; slice = line501 ++ (13 ∷ 10 ∷ 0 ∷ []) }
-  pub no_room : (export_of (announce 7 101 (Grant row501)) (replicate 20 0)).answer ≡ Refused 25
+  pub exports : export_of (announce 7 101 (Grant row501)) (replicate 22 0) ≡ record { answer = Ok 21; slice = line501 ++ (13 ∷ 10 ∷ 0 ∷ []) }
+  pub no_room : (export_of (announce 7 101 (Grant row501)) (replicate 20 0)).answer ≡ Err NoRosterRoom
   -- "anything but a well-formed grant ending by 2099-12-31"
-  pub no-grant : (export_of (announce 7 101 (End 501)) []).answer ≡ Refused 24
-  pub too-late : (export_of (announce 7 101 (Grant (record { login = 501; end = day 47482; rights = 1 }))) []).answer ≡ Refused 24
+  pub no-grant : (export_of (announce 7 101 (End 501)) []).answer ≡ Err BadRoster
+  pub too-late : (export_of (announce 7 101 (Grant (record { login = 501; end = day 47482; rights = 1 }))) []).answer ≡ Err BadRoster

@@ -12,10 +12,10 @@ use Rattle.records.specs.declared.Action.TheVariants.{Propose, Cancel, Certify, 
 use Rattle.records.specs.Sheet.{sheet_of}
 use Rattle.checkpoint.specs.Checkpoint.{checkpoint_bytes, read_checkpoint}
 use Rattle.node.specs.declared.Node.{Node}
-use Rattle.node.specs.declared.DeliverAnswer.TheVariants as Deliver
-use Rattle.node.specs.declared.QueryAnswer.TheVariants as Query
-use Rattle.node.specs.declared.CheckpointAnswer.TheVariants as Checkpoint
-use Rattle.node.specs.declared.PageAnswer.TheVariants as Page
+use Rattle.node.specs.DeliverAnswer as Deliver
+use Rattle.node.specs.QueryAnswer as Query
+use Rattle.node.specs.CheckpointAnswer as Checkpoint
+use Rattle.node.specs.PageAnswer as Page
 use Rattle.node.specs.Start.{start_of}
 use Rattle.node.specs.Deliver.{deliver_of}
 use Rattle.node.specs.Query.{query_of}

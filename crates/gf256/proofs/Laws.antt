@@ -7,11 +7,11 @@ use Prim.Native.Nat.{ℕ, zero, suc, ◌+◌, ◌-◌, ◌*◌, ◌/◌, ◌%◌
 use native.Mathlib.Nat.{zero-add, suc-add, mul-suc, mod-lt, mod-eq_of_lt, zero-lt-suc}
 use native.Mathlib.Nat as Nat
 use native.Mathlib.Omega.{arith}
-use lib.Bits.{bit_xor, xor_mod, xor_zero_r, xor_self, xor_comm, xor_lt}
+use lib.Bits.{bit_xor, xor_assoc, xor_mod, xor_zero_r, xor_self, xor_comm, xor_lt}
 use lib.ListN.{get_or}
 use Rattle.gf256.specs.Field.{add, scaled, mul, power, inverse, divide}
 use Rattle.gf256.specs.Tables.{ArePowers, AreLogarithms}
-use Rattle.gf256.proofs.Xor.{xor_assoc, xor-four}
+use Rattle.gf256.proofs.Xor.{xor-four}
 use Rattle.gf256.proofs.Products.{scaled-byte, times_x, product, thrice, product-thrice, product-zero, product-of-zero, remainder-times}
 use Rattle.gf256.proofs.Entries.{powers, logs, log, tested, entry-up, up, up_up, up-sum, product-up, powers-end, up-log}
 
@@ -240,3 +240,5 @@ divide-logs a b l m e f h hb n =
     let whole : mul b i ≡ 1 =
     ap (λ (x : ℕ). mul x i) (sym f) ∙ power-add 3 m (255 - m) ∙ ap (λ (k : ℕ). power k 3) (let s : m + (255 - m) ≡ 255 * 1 = omega arith in s) ∙ cycle 1 in
     mul-logs a (inverse b) l (255 - m) e (inverse-only b i hb n (power-byte (255 - m) 3) whole)
+
+pub ruleset by_logarithms = (zero-mul, mul-zero, inverse-zero, power-again, mul-logs, divide-logs)

@@ -1,14 +1,14 @@
-// The table of the logarithms of the powers of 3, fetched once and lent like that of the powers.
+// The table of the logarithms of the powers of 3.
 ghost use Rattle.gf256.specs.Tables.{AreLogarithms};
 
-pub fn logarithms() -> [u8; 256]
-    ensures { AreLogarithms result }
+pub fn logarithms() -> &'static [u8; 256]
+    ensures { AreLogarithms result.now }
 {
-    LOGARITHMS
+    &LOGARITHMS
 }
 
 // That of 0 is never used.
-const LOGARITHMS: [u8; 256] = [
+static LOGARITHMS: [u8; 256] = [
     0, 0, 25, 1, 50, 2, 26, 198, 75, 199, 27, 104, 51, 238, 223, 3, 100, 4, 224, 14, 52, 141, 129,
     239, 76, 113, 8, 200, 248, 105, 28, 193, 125, 194, 29, 181, 249, 185, 39, 106, 77, 228, 166,
     114, 154, 201, 9, 120, 101, 47, 138, 5, 33, 15, 225, 36, 18, 240, 130, 69, 53, 147, 218, 142,

@@ -1,14 +1,14 @@
-// The table of the powers of 3. A constant is written out wherever it is named, so a call fetches it once, and lends it.
+// The table of the powers of 3.
 ghost use Rattle.gf256.specs.Tables.{ArePowers};
 
-pub fn powers() -> [u8; 255]
-    ensures { ArePowers result }
+pub fn powers() -> &'static [u8; 255]
+    ensures { ArePowers result.now }
 {
-    POWERS
+    &POWERS
 }
 
-// From the power 0 on.
-const POWERS: [u8; 255] = [
+// From the power 0 on. A static lies in one place, where a constant would be written out on the stack for each product.
+static POWERS: [u8; 255] = [
     1, 3, 5, 15, 17, 51, 85, 255, 26, 46, 114, 150, 161, 248, 19, 53, 95, 225, 56, 72, 216, 115,
     149, 164, 247, 2, 6, 10, 30, 34, 102, 170, 229, 52, 92, 228, 55, 89, 235, 38, 106, 190, 217,
     112, 144, 171, 230, 49, 83, 245, 4, 12, 20, 60, 68, 204, 79, 209, 104, 184, 211, 110, 178, 205,

@@ -48,7 +48,7 @@ flag_at_lem : (b : List ℕ) → (own_fields.decode (drop own_at b)).flag ≡ by
 flag_at_lem b = simp (get_or-drop, drop-drop)
 
 -- Rows of one byte are the bytes.
-bytes-are : (n : ℕ) (b : List ℕ) → n ≤ length b → decode_rows byte n b ≡ take n b
+pub bytes-are : (n : ℕ) (b : List ℕ) → n ≤ length b → decode_rows byte n b ≡ take n b
 unfolding decode_rows
 bytes-are zero b h = refl
 bytes-are (suc n) [] h = absurd (omega arith)

@@ -12,7 +12,7 @@ use checkpoint::layout::CHECKPOINT_SIZE;
 use checkpoint::{current_state_in, cycle_in, is_current, standing_in};
 use node::Node;
 use records::layout::ANNOUNCEMENT_SIZE;
-use records::{AnnouncementRead, read_announcement};
+use records::read_announcement;
 use state::Cycle;
 use state::limits::SEAT_NUMBERS;
 use state::seats::FREE;
@@ -23,11 +23,7 @@ fn vote_at(b: &[u8], at: usize) -> [u8; ANNOUNCEMENT_SIZE]
     ensures { result ≡ decode_rows byte announcement_size (drop at b.now) }
 {
     let mut vote = [0; ANNOUNCEMENT_SIZE];
-    let mut i: usize = 0;
-    while i < ANNOUNCEMENT_SIZE {
-        vote[i] = b[at + i];
-        i += 1;
-    }
+    vote.copy_from_slice(&b[at..at + ANNOUNCEMENT_SIZE]);
     vote
 }
 
@@ -36,12 +32,11 @@ fn own_in(b: &[u8]) -> Own
     requires { image_size ≤ length b.now }
     ensures { result ≡ own_of (own_fields.decode (drop own_at b.now)) }
 {
-    let vote = vote_at(b, VOTE_AT);
     Own {
         seat: b[OWN_AT],
         life: u32_at(b, LIFE_AT),
         voted: b[FLAG_AT] == 1,
-        vote: vote,
+        vote: vote_at(b, VOTE_AT),
     }
 }
 
@@ -60,14 +55,12 @@ fn counts_in(b: &[u8]) -> AttemptCounts
 }
 
 // Zero if there is none, else a well-formed announcement of this cycle.
+#[tactic(auto, unfolding(node::specs::WellFormed::is_well_formed_vote, binary::specs::Number::is_zero_from))]
 fn is_well_formed_vote(cycle: Cycle, voted: bool, vote: &[u8]) -> bool
     ensures { result ≡ is_well_formed_vote cycle voted vote.now }
 {
     if voted {
-        match read_announcement(vote) {
-            AnnouncementRead::Read(a) => a.cycle.is_same(cycle),
-            AnnouncementRead::Malformed => false,
-        }
+        read_announcement(vote).is_some_and(|a| a.cycle == cycle)
     } else {
         is_zero_from(0, vote)
     }
@@ -105,8 +98,9 @@ pub fn node_in(b: &[u8]) -> Node
     requires { image_size ≤ length b.now }
     ensures { result ≡ decode_image b.now }
 {
-    let state = current_state_in(&b[0..CHECKPOINT_SIZE]);
-    let own = own_in(b);
-    let counts = counts_in(b);
-    Node { state, own, counts }
+    Node {
+        state: current_state_in(&b[0..CHECKPOINT_SIZE]),
+        own: own_in(b),
+        counts: counts_in(b),
+    }
 }

@@ -1,5 +1,5 @@
 // An image written to a slice.
-ghost use Rattle.std.specs.Prelude.{◌≡◌, cond, ◌≤◌, length};
+ghost use Rattle.std.specs.Prelude.{◌≡◌, ◌≤◌, length};
 ghost use Rattle.binary.specs.Number.{overwrite};
 ghost use Rattle.binary.specs.Splice.{splice};
 ghost use Rattle.checkpoint.specs.Layout.{checkpoint_size};
@@ -10,29 +10,19 @@ ghost use Rattle.image.specs.Image.{with_own, image_bytes};
 use crate::layout::{COUNTS_AT, FLAG_AT, LIFE_AT, OWN_AT, VOTE_AT};
 use binary::{put_bytes, put_u8, put_u32};
 use checkpoint::write_checkpoint;
-use records::layout::{ANNOUNCEMENT_SIZE, DOORS};
 use state::State;
 use verdicts::{AttemptCounts, Own};
-
-// The byte of the voted flag.
-fn flag_byte(voted: bool) -> u8
-    ensures { result ≡ cond voted 1 0 }
-{
-    if voted { 1 } else { 0 }
-}
 
 // The own part and the counts behind the checkpoint.
 fn put_own(out: &mut [u8], own: Own, counts: AttemptCounts)
     requires { image_size ≤ length out.old }
     ensures { out.new ≡ splice out.old own_at (own_fields.encode (fields_of own counts)) }
 {
-    let vote = own.vote;
-    let misses = counts.misses;
     put_u8(out, OWN_AT, own.seat);
     put_u32(out, LIFE_AT, own.life);
-    put_u8(out, FLAG_AT, flag_byte(own.voted));
-    put_bytes(out, VOTE_AT, &vote[0..ANNOUNCEMENT_SIZE]);
-    put_bytes(out, COUNTS_AT, &misses[0..DOORS]);
+    put_u8(out, FLAG_AT, u8::from(own.voted));
+    put_bytes(out, VOTE_AT, &own.vote);
+    put_bytes(out, COUNTS_AT, &counts.misses);
 }
 
 // Writes an image to the front of a slice, the state as the checkpoint's bytes that are at hand.

@@ -5,10 +5,11 @@ use mathlib.Core.List.{List, [], ◌∷◌, ◌++◌, append-nil}
 use Prim.Native.Nat.{ℕ, suc, ◌+◌, ◌-◌, ◌<◌, ◌≤◌}
 use native.Mathlib.Omega.{arith}
 use native.Mathlib.Numerals.{add-one}
-use lib.ListN.{length, set, take, drop, drop_of_length-le, length-append}
+use lib.ListN.{length, get_or, set, take, drop, drop_of_length-le, length-append}
 use lib.Dec.{ltb}
 use borrow.Author.Tests.{ltb-true, ltb-false, lt-ltb, le-ltb}
-use lib.Seq.{length-take-le, take-append-le, take-append-add, take-take, drop_at, set_split}
+use lib.Seq.{drop-cons, length-take-le, take-append-le, take-append-add, take-take, drop_at, set_split}
+use Rattle.std.specs.Int.{from_bool}
 use Rattle.std.specs.Prelude.{count_by, position, Option, Some, None}
 use Rattle.std.specs.List.{position_or_len, copy_within}
 use Rattle.std.proofs.lemmas.List.Recursion.{is_sum_by}
@@ -29,6 +30,21 @@ module _ {A : Type 0} (p : A → Bool) where
       at : (b : Bool) → index_of p xs ≡ position_or_len p xs → cond b 0 (suc (index_of p xs)) ≡ cond (not b) (1 + position_or_len p xs) 0
       at true h = refl
       at false h = omega arith
+
+-- a flag as a number
+pub flag-number : (b : Bool) → from_bool b ≡ cond b 1 0
+flag-number true = refl
+flag-number false = refl
+
+pub flag-small : (b : Bool) → from_bool b ≤ 1
+flag-small true = omega arith
+flag-small false = omega arith
+
+-- one turn of a loop that adds a flag for each element
+pub flag-counted : {A : Type 0} (p : A → Bool) (d : A) (xs : List A) (i n : ℕ) → i < length xs → n ≡ from_bool (p (get_or xs i d))
+    → count p (drop i xs) ≡ n + count p (drop (i + 1) xs)
+unfolding count
+flag-counted p d xs i n h e = rw (add-one, drop-cons xs i d h, e, flag-number (p (get_or xs i d)))
 
 -- the rows from i on moved to the next place, and x in row i
 pub copied-insert : {A : Type 0} (x : A) (l : List A) (i n : ℕ) → length l ≡ suc n → i < suc n → set (copy_within l i n (i + 1)) i x ≡ insert_at i x l

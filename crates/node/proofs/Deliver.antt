@@ -11,8 +11,7 @@ use Rattle.lists.proofs.Tests.{cond_cases}
 use Rattle.binary.specs.Number.{is_same_bytes}
 use Rattle.binary.proofs.Same.{same_bytes}
 use Rattle.records.specs.declared.Announcement.{Announcement}
-use Rattle.records.specs.declared.AnnouncementRead.{AnnouncementRead}
-use Rattle.records.specs.declared.AnnouncementRead.TheVariants.{Read, Malformed}
+use Rattle.std.specs.Prelude.{Option, Some, None}
 use Rattle.records.specs.Announcement.{read_announcement}
 use Rattle.records.specs.Sheet.{is_sheet}
 use Rattle.refusals.proofs.Chains.{passes, passes-rule, not-zero, bounds}
@@ -22,7 +21,7 @@ use Rattle.actions.specs.Perform.{without_lapsed}
 use Rattle.verdicts.specs.Own.{is_halted, can_vote, voted_otherwise}
 use Rattle.verdicts.specs.Verdicts.{deliver_refusal, shows_quorum, vote_refusal}
 use Rattle.node.specs.declared.Node.{Node}
-use Rattle.node.specs.declared.DeliverReply.{DeliverReply}
+use Rattle.node.specs.Reply.{DeliverReply}
 use Rattle.node.specs.Answers.{deliver_number}
 use Rattle.node.specs.Deliver as Deliver
 use Rattle.node.specs.Deliver.{without_quorum, deliver_read, deliver_records, deliver_of}
@@ -48,7 +47,7 @@ within-rules n sb a =
 
 module _ (n : Node) (ab sb : List ℕ) where
   -- no number from 3 to 14 applies
-  accepted : (a : Announcement) → read_announcement ab ≡ Read a → is_sheet sb ≡ true → ruled n sb a ≡ 0 → Accepted n ab sb a
+  accepted : (a : Announcement) → read_announcement ab ≡ Some a → is_sheet sb ≡ true → ruled n sb a ≡ 0 → Accepted n ab sb a
   unfolding deliver_refusal
   accepted a ra rs z =
       let p = passes-rule (is_halted n.state n.own) 3 _ refl z in
@@ -77,16 +76,16 @@ module _ (n : Node) (ab sb : List ℕ) where
         (λ q. performs a acc (leb-true _ _ q) refl)
         (λ q. by-vote (λ h. false≢true (sym q ∙ le-leb _ _ h)) (can_vote n.state n.own) refl (voted_otherwise n.own ab) refl)
 
-  by-rules : (a : Announcement) → read_announcement ab ≡ Read a → is_sheet sb ≡ true → Delivery n ab sb (deliver_read n ab a sb)
+  by-rules : (a : Announcement) → read_announcement ab ≡ Some a → is_sheet sb ≡ true → Delivery n ab sb (deliver_read n ab a sb)
   unfolding deliver_read
   by-rules a ra rs =
       cond_cases (Delivery n ab sb) (eqb (ruled n sb a) 0)
       (λ z. by-quorum a (accepted a ra rs (eqb-true _ _ z)))
       (λ z. refuses (ruled n sb a) (rule a ra rs (not-zero _ z) (within-rules n sb a) refl) refl)
 
-  by-records : (o : AnnouncementRead) → read_announcement ab ≡ o → Delivery n ab sb (deliver_records n ab o sb)
-  by-records Malformed e = refuses 1 (announcement-malformed refl e) refl
-  by-records (Read a) e = cond_cases (Delivery n ab sb) (is_sheet sb) (by-rules a e) (λ rs. refuses 2 (sheet-malformed a refl e rs) refl)
+  by-records : (o : Option Announcement) → read_announcement ab ≡ o → Delivery n ab sb (deliver_records n ab o sb)
+  by-records None e = refuses 1 (announcement-malformed refl e) refl
+  by-records (Some a) e = cond_cases (Delivery n ab sb) (is_sheet sb) (by-rules a e) (λ rs. refuses 2 (sheet-malformed a refl e rs) refl)
 
 pub deliver-comes-to : DeliverComesTo
 unfolding deliver_of

@@ -16,7 +16,7 @@ use Rattle.tables.specs.Proposals.{proposals_full, has_proposal}
 use Rattle.tables.specs.Logins.{is_listed, lacks_row}
 use Rattle.tables.proofs.Earliest.{lacks-row-in-words}
 use Rattle.records.specs.declared.Announcement.{Announcement}
-use Rattle.records.specs.declared.AnnouncementRead.TheVariants.{Read}
+use Rattle.std.specs.Prelude.{Some}
 use Rattle.records.specs.declared.Action.{Action}
 use Rattle.records.specs.declared.Action.TheVariants as Kind
 use Rattle.records.specs.Actions.{kind_of, level_of, subject_of}
@@ -47,7 +47,7 @@ unsigned n sb a = not (is_signed n.state (level_of (kind_of a.action)) (level1 s
 abbrev pub unnoticed : Node → Announcement → ℕ
 unnoticed n a = notice_refusal (seen n a) a.day (subject_of a.action)
 
-module _ {n : Node} {ab sb : List ℕ} {a : Announcement} {k : ℕ} (ra : read_announcement ab ≡ Read a) (low : 1 ≤ k) where
+module _ {n : Node} {ab sb : List ℕ} {a : Announcement} {k : ℕ} (ra : read_announcement ab ≡ Some a) (low : 1 ≤ k) where
   time-applies : time_refusal n.state.cycle n.state.day a ≡ k → Applies (at n (deliver ab sb)) k
   unfolding time_refusal
   time-applies =

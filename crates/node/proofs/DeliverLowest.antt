@@ -20,8 +20,7 @@ use Rattle.tables.specs.Proposals.{has_proposal, drop_lapsed}
 use Rattle.tables.specs.Logins.{is_listed}
 use Rattle.tables.proofs.Earliest.{lacks-row-in-words}
 use Rattle.records.specs.declared.Announcement.{Announcement}
-use Rattle.records.specs.declared.AnnouncementRead.{AnnouncementRead}
-use Rattle.records.specs.declared.AnnouncementRead.TheVariants.{Read, Malformed}
+use Rattle.std.specs.Prelude.{Option, Some, None}
 use Rattle.records.specs.declared.Action.{Action}
 use Rattle.records.specs.declared.Action.TheVariants as Kind
 use Rattle.records.specs.Actions.{kind_of, subject_of}
@@ -32,7 +31,7 @@ use Rattle.actions.specs.Perform.{without_lapsed, perform}
 use Rattle.verdicts.specs.Own.{is_halted, held_seat, can_vote, voted_otherwise}
 use Rattle.verdicts.specs.Verdicts.{deliver_refusal, shows_quorum, vote_refusal}
 use Rattle.node.specs.declared.Node.{Node}
-use Rattle.node.specs.declared.DeliverReply.{DeliverReply}
+use Rattle.node.specs.Reply.{DeliverReply}
 use Rattle.node.specs.Answers.{deliver_number}
 use Rattle.node.specs.Deliver.{deliver_read, deliver_of}
 use Rattle.node.specs.Applies.{deliver, at, number_given, Tries, of-announcement}
@@ -72,7 +71,7 @@ module _ (n : Node) (sb : List ℕ) (a : Announcement) {j : ℕ} where
 
 module _ (n : Node) (ab sb : List ℕ) {j : ℕ} where
   -- A rule applies to a well-formed announcement: by the sheet.
-  by-rules : {a : Announcement} → read_announcement ab ≡ Read a → 2 ≤ j → (is_sheet sb ≡ true → UpTo j (ruled n sb a))
+  by-rules : {a : Announcement} → read_announcement ab ≡ Some a → 2 ≤ j → (is_sheet sb ≡ true → UpTo j (ruled n sb a))
       → UpTo j (number_given (at n (deliver ab sb)))
   unfolding deliver_of deliver_read
   by-rules {a} ra l f =
@@ -84,11 +83,11 @@ module _ (n : Node) (ab sb : List ℕ) {j : ℕ} where
       (λ rs. omega arith))
 
   -- A rule from 4 to 7 applies, or one that is checked for the action's kind.
-  by-time : {a : Announcement} → read_announcement ab ≡ Read a → 3 ≤ j → UpTo j (time_refusal n.state.cycle n.state.day a)
+  by-time : {a : Announcement} → read_announcement ab ≡ Some a → 3 ≤ j → UpTo j (time_refusal n.state.cycle n.state.day a)
       → UpTo j (number_given (at n (deliver ab sb)))
   by-time {a} ra l h = by-rules ra (omega arith) (λ _. in-time n sb a l h)
 
-  by-check : {a : Announcement} {x : Action} → read_announcement ab ≡ Read a → a.action ≡ x → 8 ≤ j → UpTo j (check_refusal (seen n a) a.day x)
+  by-check : {a : Announcement} {x : Action} → read_announcement ab ≡ Some a → a.action ≡ x → 8 ≤ j → UpTo j (check_refusal (seen n a) a.day x)
       → UpTo j (number_given (at n (deliver ab sb)))
   by-check {a} ra ax l h = by-rules ra (omega arith) (λ _. in-check n sb a l (rw ax h))
 
@@ -97,12 +96,12 @@ module _ (n : Node) (ab sb : List ℕ) {j : ℕ} where
   unfolding deliver_of
   by-announcement l f = by (read_announcement ab) refl
     where
-      by : (o : AnnouncementRead) → read_announcement ab ≡ o → UpTo j (number_given (at n (deliver ab sb)))
-      by Malformed e = rw e (omega arith)
-      by (Read a) e = by-rules e l (λ _. f a)
+      by : (o : Option Announcement) → read_announcement ab ≡ o → UpTo j (number_given (at n (deliver ab sb)))
+      by None e = rw e (omega arith)
+      by (Some a) e = by-rules e l (λ _. f a)
 
   -- Rule 15 or 16 applies.
-  by-votes : {a : Announcement} → read_announcement ab ≡ Read a → NoQuorum n sb → 14 ≤ j → UpTo j (vote_refusal n.state n.own ab)
+  by-votes : {a : Announcement} → read_announcement ab ≡ Some a → NoQuorum n sb → 14 ≤ j → UpTo j (vote_refusal n.state n.own ab)
       → UpTo j (number_given (at n (deliver ab sb)))
   unfolding deliver_of deliver_read shows_quorum
   by-votes {a} ra q l h =
@@ -117,9 +116,9 @@ sheet-up-to : (n : Node) (ab sb : List ℕ) → is_sheet sb ≡ false → UpTo 2
 unfolding deliver_of
 sheet-up-to n ab sb rs = by (read_announcement ab) refl
   where
-    by : (o : AnnouncementRead) → read_announcement ab ≡ o → UpTo 2 (number_given (at n (deliver ab sb)))
-    by Malformed e = rw e (omega arith)
-    by (Read a) e = rw (e, rs) (omega arith)
+    by : (o : Option Announcement) → read_announcement ab ≡ o → UpTo 2 (number_given (at n (deliver ab sb)))
+    by None e = rw e (omega arith)
+    by (Some a) e = rw (e, rs) (omega arith)
 
 -- The tests of the rules, from their words.
 inactive : (x : Seat) → x.standing ≢ certified → x.standing ≢ present → not (is_active x) ≡ true

@@ -12,7 +12,7 @@ use Rattle.records.specs.declared.Announcement.{Announcement}
 use Rattle.actions.specs.Perform.{advance, without_lapsed, perform}
 use Rattle.verdicts.specs.Verdicts.{deliver_refusal, shows_quorum, vote_refusal}
 use Rattle.node.specs.declared.Node.{Node}
-use Rattle.node.specs.declared.DeliverReply.{DeliverReply}
+use Rattle.node.specs.Reply.{DeliverReply}
 use Rattle.node.specs.Deliver.{refuses_delivery, leaves, votes, deliver_read}
 
 -- The quorum does not look at the proposals.

@@ -12,9 +12,9 @@ use borrow.Author.Tests.{leb-false, lt-leb}
 use Rattle.state.specs.declared.Day.{Day}
 use Rattle.checkpoint.specs.Layout.{checkpoint_size}
 use Rattle.node.specs.declared.Node.{Node}
-use Rattle.node.specs.declared.StartReply.{StartReply}
-use Rattle.node.specs.declared.DeliverReply.{DeliverReply}
-use Rattle.node.specs.declared.QueryReply.{QueryReply}
+use Rattle.node.specs.Reply.{StartReply}
+use Rattle.node.specs.Reply.{DeliverReply}
+use Rattle.node.specs.Reply.{QueryReply}
 use Rattle.node.specs.Answers.{start_number, deliver_number, query_number, checkpoint_number, page_number}
 use Rattle.node.specs.Checkpoint.{checkpoint_of}
 use Rattle.node.specs.Page.{page_fits, page_of}

@@ -13,14 +13,13 @@ use Rattle.state.specs.Time.{later_day}
 use Rattle.state.specs.Rows.{is_login, is_ended, is_silent, holds_right}
 use Rattle.tables.specs.Logins.{find_login, is_listed}
 use Rattle.records.specs.declared.Query.{Query}
-use Rattle.records.specs.declared.QueryRead.{QueryRead}
-use Rattle.records.specs.declared.QueryRead.TheVariants.{Read, Malformed}
+use Rattle.std.specs.Prelude.{Option, Some, None}
 use Rattle.records.specs.StartQuery.{read_query}
 use Rattle.refusals.proofs.Chains.{unrefused, passes-rule, by-rule, refused, not-zero}
 use Rattle.node.specs.declared.Node.{Node}
 use Rattle.node.proofs.Numbers.{query-numbers}
-use Rattle.node.specs.declared.CountedAnswer.{CountedAnswer}
-use Rattle.node.specs.declared.QueryReply.{QueryReply}
+use Rattle.node.specs.Reply.{CountedAnswer}
+use Rattle.node.specs.Reply.{QueryReply}
 use Rattle.verdicts.specs.Own.{is_halted}
 use Rattle.verdicts.specs.Attempts.{most_misses, misses_at, are_in_range}
 use Rattle.verdicts.proofs.Misses.{none_above, some-above}
@@ -33,7 +32,7 @@ use Rattle.node.specs.Claims.{Opens, Asking, refuses, misses, opens, QueryComesT
 pub adds-from : (k : ℕ) → adds_miss k ≡ true → 19 ≤ k
 adds-from k e = let t = simp and-eq-true_iff at e in leb-true 19 k t.0
 
-module _ (n : Node) (qb : List ℕ) (q : Query) (rq : read_query qb ≡ Read q) where
+module _ (n : Node) (qb : List ℕ) (q : Query) (rq : read_query qb ≡ Some q) where
   t : Day
   t = later_day q.day n.state.day
 
@@ -91,7 +90,7 @@ abbrev reply : Node → CountedAnswer → QueryReply
 reply n r = record { node = with_counts r.counts n; answer = r.answer }
 
 -- the reply to a refusal number k that is not 0
-by_number : (n : Node) (qb : List ℕ) (q : Query) (k : ℕ) → read_query qb ≡ Read q → eqb k 0 ≡ false → QueryRefused n qb k
+by_number : (n : Node) (qb : List ℕ) (q : Query) (k : ℕ) → read_query qb ≡ Some q → eqb k 0 ≡ false → QueryRefused n qb k
     → (adds_miss k ≡ true → misses_at q.door n.counts < most_misses) → Asking n qb (reply n (answered n.counts q.door k))
 unfolding answered
 by_number n qb q k rq z r f =
@@ -100,10 +99,10 @@ by_number n qb q k rq z r f =
     (λ h. let t = simp and-eq-true_iff at h in misses k q (leb-true 19 k t.0) rq (f h) r refl)
     (λ h. refuses k (no-miss k (query-numbers r).1 h) r refl))
 
-by-record : (n : Node) (qb : List ℕ) (o : QueryRead) → read_query qb ≡ o → Asking n qb (reply n (ask_record n.state n.own n.counts o))
+by-record : (n : Node) (qb : List ℕ) (o : Option Query) → read_query qb ≡ o → Asking n qb (reply n (ask_record n.state n.own n.counts o))
 unfolding answered Why
-by-record n qb Malformed e = refuses 1 (omega arith) (malformed refl e) refl
-by-record n qb (Read q) e =
+by-record n qb None e = refuses 1 (omega arith) (malformed refl e) refl
+by-record n qb (Some q) e =
     cond_cases (λ (x : CountedAnswer). Asking n qb (reply n x)) (are_in_range n.counts) (λ r. at r (eqb k 0) refl)
     (λ r. let above = some-above n.counts r in refuses 1 (omega arith) (count-above above.0 refl above.1) refl)
   where

@@ -12,8 +12,7 @@ use Rattle.state.specs.Time.{later_day}
 use Rattle.state.specs.Rows.{is_login, is_ended, is_silent, holds_right}
 use Rattle.tables.specs.Logins.{find_login, is_listed}
 use Rattle.records.specs.declared.Query.{Query}
-use Rattle.records.specs.declared.QueryRead.{QueryRead}
-use Rattle.records.specs.declared.QueryRead.TheVariants.{Read, Malformed}
+use Rattle.std.specs.Prelude.{Option, Some, None}
 use Rattle.records.specs.StartQuery.{read_query}
 use Rattle.verdicts.specs.Own.{is_halted}
 use Rattle.verdicts.specs.declared.AttemptCounts.{AttemptCounts}
@@ -21,7 +20,7 @@ use Rattle.verdicts.specs.Attempts.{most_misses, misses_at, are_in_range}
 use Rattle.verdicts.proofs.Misses.{none_above}
 use Rattle.verdicts.specs.Verdicts.{login_refusal, query_refusal}
 use Rattle.node.specs.declared.Node.{Node}
-use Rattle.node.specs.declared.CountedAnswer.{CountedAnswer}
+use Rattle.node.specs.Reply.{CountedAnswer}
 use Rattle.node.specs.Answers.{query_number}
 use Rattle.node.specs.Query.{adds_miss, answered, ask_of, query_of}
 use Rattle.node.specs.Claims.{QueryRefused, malformed, count-above, halted, locked, silent, unlisted, ended, right-not-held}
@@ -51,7 +50,7 @@ answer-number c door k =
     (λ _. cond_cases (λ (r : CountedAnswer). query_number r.answer ≡ k) (adds_miss k) (λ _. refl) (λ _. refl))
 
 module _ (n : Node) (qb : List ℕ) {j : ℕ} where
-  by_read : (q : Query) → read_query qb ≡ Read q → UpTo j (query_refusal n.state n.own n.counts q) → UpTo j (number_given (at n (query qb)))
+  by_read : (q : Query) → read_query qb ≡ Some q → UpTo j (query_refusal n.state n.own n.counts q) → UpTo j (number_given (at n (query qb)))
   unfolding query_of ask_of
   by_read q rq h =
       rw rq
@@ -62,18 +61,18 @@ module _ (n : Node) (qb : List ℕ) {j : ℕ} where
   unfolding query_of ask_of
   by-query l f = by (read_query qb) refl
     where
-      by : (o : QueryRead) → read_query qb ≡ o → UpTo j (number_given (at n (query qb)))
-      by Malformed e = rw e (omega arith)
-      by (Read q) e = by_read q e (f q)
+      by : (o : Option Query) → read_query qb ≡ o → UpTo j (number_given (at n (query qb)))
+      by None e = rw e (omega arith)
+      by (Some q) e = by_read q e (f q)
 
   -- a count above the most refuses every query
   by_count : 1 ≤ j → (door : ℕ) → most_misses < misses_at door n.counts → UpTo j (number_given (at n (query qb)))
   unfolding query_of ask_of
   by_count l door h = by (read_query qb) refl
     where
-      by : (o : QueryRead) → read_query qb ≡ o → UpTo j (number_given (at n (query qb)))
-      by Malformed e = rw e (omega arith)
-      by (Read q) e =
+      by : (o : Option Query) → read_query qb ≡ o → UpTo j (number_given (at n (query qb)))
+      by None e = rw e (omega arith)
+      by (Some q) e =
           rw e
           (cond_cases (λ (r : CountedAnswer). UpTo j (query_number r.answer)) (are_in_range n.counts)
           (λ r. absurd (let k = none_above n.counts r door in omega arith)) (λ _. omega arith))

@@ -9,8 +9,7 @@ use Rattle.lists.proofs.Tests.{cond_cases}
 use Rattle.state.specs.declared.Seat.{Seat}
 use Rattle.state.specs.Seats.{seat_at, is_active}
 use Rattle.records.specs.declared.Start.{Start}
-use Rattle.records.specs.declared.StartRead.{StartRead}
-use Rattle.records.specs.declared.StartRead.TheVariants.{Read, Malformed}
+use Rattle.std.specs.Prelude.{Option, Some, None}
 use Rattle.records.specs.StartQuery.{read_start}
 use Rattle.checkpoint.specs.Checkpoint.{is_checkpoint, read_checkpoint}
 use Rattle.checkpoint.proofs.Fields.{read_ok}
@@ -20,7 +19,7 @@ use Rattle.node.specs.Start.{start_read, start_records, start_of}
 use Rattle.node.specs.Claims.{StartRefused, start-malformed, checkpoint-malformed, seat-unfit, life-below, Starting, refuses, starts}
 use Rattle.node.specs.Claims.{StartComesTo}
 
-module _ (cb sb : List ℕ) (x : Start) (rx : read_start sb ≡ Read x) where
+module _ (cb sb : List ℕ) (x : Start) (rx : read_start sb ≡ Some x) where
   seat : Seat
   seat = seat_at x.seat (read_checkpoint cb).state.seats
 
@@ -40,9 +39,9 @@ module _ (cb sb : List ℕ) (x : Start) (rx : read_start sb ≡ Read x) where
       starts x rx rc (not-false _ p.0) (ltb-false _ _ (unrefused (ltb x.life seat.life) 14 refl p.1)) refl)
       (λ z. refuses _ (why rc _ (not-zero _ z) refl) refl)
 
-by-records : (cb sb : List ℕ) (o : StartRead) → read_start sb ≡ o → Starting cb sb (start_records (read_checkpoint cb) o)
-by-records cb sb Malformed e = refuses 1 (start-malformed refl e) refl
-by-records cb sb (Read x) e = rw (read_ok cb)
+by-records : (cb sb : List ℕ) (o : Option Start) → read_start sb ≡ o → Starting cb sb (start_records (read_checkpoint cb) o)
+by-records cb sb None e = refuses 1 (start-malformed refl e) refl
+by-records cb sb (Some x) e = rw (read_ok cb)
     (cond_cases (Starting cb sb) (is_checkpoint cb) (by-rules cb sb x e) (λ rc. refuses 1 (checkpoint-malformed refl rc) refl))
 
 pub start-comes-to : StartComesTo

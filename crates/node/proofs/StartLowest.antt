@@ -18,13 +18,12 @@ use Rattle.state.specs.Seats.{free, certified, present, retired, seat_at, is_act
 use Rattle.state.specs.WellFormed.{is_trustee_count, is_well_formed_seat, is_well_formed}
 use Rattle.state.proofs.SeatLaws.{well-formed-held}
 use Rattle.records.specs.declared.Start.{Start}
-use Rattle.records.specs.declared.StartRead.{StartRead}
-use Rattle.records.specs.declared.StartRead.TheVariants.{Read, Malformed}
+use Rattle.std.specs.Prelude.{Option, Some, None}
 use Rattle.records.specs.StartQuery.{read_start}
 use Rattle.checkpoint.specs.Checkpoint.{is_checkpoint, read_checkpoint}
 use Rattle.checkpoint.proofs.Fields.{read_ok, read-well-formed}
 use Rattle.verdicts.specs.Verdicts.{start_refusal}
-use Rattle.node.specs.declared.StartReply.{StartReply}
+use Rattle.node.specs.Reply.{StartReply}
 use Rattle.node.specs.Answers.{start_number}
 use Rattle.node.specs.Start.{start_read, start_of}
 use Rattle.node.specs.Claims.{StartRefused, start-malformed, checkpoint-malformed, seat-unfit, life-below}
@@ -85,9 +84,9 @@ not-checkpoint : (cb sb : List ℕ) → is_checkpoint cb ≡ false → UpTo 1 (n
 unfolding start_of
 not-checkpoint cb sb rc = by (read_start sb) refl
   where
-    by : (o : StartRead) → read_start sb ≡ o → UpTo 1 (number_given (Table.start cb sb))
-    by Malformed e = rw e (omega arith)
-    by (Read x) e = rw (e, read_ok cb, rc) (omega arith)
+    by : (o : Option Start) → read_start sb ≡ o → UpTo 1 (number_given (Table.start cb sb))
+    by None e = rw e (omega arith)
+    by (Some x) e = rw (e, read_ok cb, rc) (omega arith)
 
 unfit-inactive : (x : Seat) → (x.standing ≡ free) ⊎ (x.standing ≡ retired) → not (is_active x) ≡ true
 unfit-inactive x (inl e) = rw e

@@ -19,7 +19,7 @@ use Rattle.state.specs.Limits.{seat_count}
 use Rattle.state.specs.Seats.{free, seat_at, is_active}
 use Rattle.state.proofs.SeatLaws.{well-formed-held, active-not-free}
 use Rattle.records.specs.declared.Announcement.{Announcement}
-use Rattle.records.specs.declared.AnnouncementRead.TheVariants.{Read}
+use Rattle.std.specs.Prelude.{Some}
 use Rattle.records.specs.Layout.{announcement_size, door_count}
 use Rattle.records.specs.Announcement.{read_announcement}
 use Rattle.records.specs.Sheet.{level1, level2}
@@ -32,10 +32,10 @@ use Rattle.actions.proofs.Sound.{sound-of, seat-good}
 use Rattle.actions.proofs.Performed.{keeps-well-formed, always-advances, never-frees}
 use Rattle.verdicts.specs.declared.Own.{Own}
 use Rattle.node.specs.declared.Node.{Node}
-use Rattle.node.specs.declared.DeliverReply.{DeliverReply}
-use Rattle.node.specs.declared.QueryReply.{QueryReply}
-use Rattle.node.specs.declared.StartReply.{StartReply}
-use Rattle.node.specs.declared.StartAnswer.TheVariants.{Started, Refused}
+use Rattle.node.specs.Reply.{DeliverReply}
+use Rattle.node.specs.Reply.{QueryReply}
+use Rattle.node.specs.Reply.{StartReply}
+use Rattle.node.specs.StartAnswer.{Started, Refused}
 use Rattle.verdicts.specs.Own.{own_afresh, with_vote}
 use Rattle.verdicts.specs.Attempts.{most_misses, misses_at, with_misses, no_misses, are_in_range}
 use Rattle.verdicts.proofs.Misses.{still-in-range}
@@ -97,7 +97,7 @@ afresh s seat life w i h l u = record {
 }
 
 -- a node after a vote for an announcement of its cycle
-voted : (n : Node) (ab : List ℕ) (a : Announcement) → read_announcement ab ≡ Read a → a.cycle ≡ n.state.cycle → length ab ≡ announcement_size
+voted : (n : Node) (ab : List ℕ) (a : Announcement) → read_announcement ab ≡ Some a → a.cycle ≡ n.state.cycle → length ab ≡ announcement_size
     → Bytes ab
     → WellFormedNode n → WellFormedNode (record { state = n.state; own = with_vote ab n.own; counts = n.counts })
 unfolding is_well_formed_vote

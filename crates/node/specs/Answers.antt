@@ -1,15 +1,15 @@
 -- Each answer's number: "Refusals return the number"; started, done, open and given are 0, voted is 128. No refusal has either.
 use Rattle.std.specs.Prelude.{ℕ}
-use Rattle.node.specs.declared.StartAnswer.{StartAnswer}
-use Rattle.node.specs.declared.StartAnswer.TheVariants as S
-use Rattle.node.specs.declared.DeliverAnswer.{DeliverAnswer}
-use Rattle.node.specs.declared.DeliverAnswer.TheVariants as D
-use Rattle.node.specs.declared.QueryAnswer.{QueryAnswer}
-use Rattle.node.specs.declared.QueryAnswer.TheVariants as Q
-use Rattle.node.specs.declared.CheckpointAnswer.{CheckpointAnswer}
-use Rattle.node.specs.declared.CheckpointAnswer.TheVariants as C
-use Rattle.node.specs.declared.PageAnswer.{PageAnswer}
-use Rattle.node.specs.declared.PageAnswer.TheVariants as P
+use Rattle.node.specs.StartAnswer.{StartAnswer}
+use Rattle.node.specs.StartAnswer as S
+use Rattle.node.specs.DeliverAnswer.{DeliverAnswer}
+use Rattle.node.specs.DeliverAnswer as D
+use Rattle.node.specs.QueryAnswer.{QueryAnswer}
+use Rattle.node.specs.QueryAnswer as Q
+use Rattle.node.specs.CheckpointAnswer.{CheckpointAnswer}
+use Rattle.node.specs.CheckpointAnswer as C
+use Rattle.node.specs.PageAnswer.{PageAnswer}
+use Rattle.node.specs.PageAnswer as P
 
 abbrev pub start_number : StartAnswer → ℕ
 start_number S.Started = 0

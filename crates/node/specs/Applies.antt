@@ -1,5 +1,5 @@
 -- "The table of no": when each number applies to a call by value, which numbers a call tries, and that it gives the lowest of them that applies.
-use Rattle.std.specs.Prelude.{◌≡◌, ◌≢◌, ◌⊎◌, true, false, ℕ, ◌*◌, ◌≤◌, ◌<◌, length}
+use Rattle.std.specs.Prelude.{◌≡◌, ◌≢◌, ◌⊎◌, true, false, ℕ, ◌*◌, ◌≤◌, ◌<◌, length, Some, None}
 use mathlib.Core.List.{List, Memᴰ}
 use Rattle.state.specs.declared.Seat.{Seat}
 use Rattle.state.specs.declared.Login.{Login}
@@ -14,12 +14,9 @@ use Rattle.tables.specs.Proposals.{proposals_full, has_proposal, drop_lapsed}
 use Rattle.tables.specs.Logins.{is_listed, find_login}
 use Rattle.tables.specs.Claims.{IsNotice, NoRowFor}
 use Rattle.records.specs.declared.Announcement.{Announcement}
-use Rattle.records.specs.declared.AnnouncementRead.TheVariants as A
 use Rattle.records.specs.declared.Action.TheVariants.{Propose, Cancel, Presents, Certify, Remove, Rejoin, Grant, End}
 use Rattle.records.specs.declared.Query.{Query}
-use Rattle.records.specs.declared.QueryRead.TheVariants as Q
 use Rattle.records.specs.declared.Start.{Start}
-use Rattle.records.specs.declared.StartRead.TheVariants as S
 use Rattle.records.specs.Actions.{kind_of, level_of, subject_of}
 use Rattle.records.specs.Announcement.{read_announcement}
 use Rattle.records.specs.Sheet.{is_sheet, level1, level2, rows_of, counted_seats}
@@ -76,24 +73,24 @@ Tries (at n (page given out)) k = (k ≡ 1) ⊎ (k ≡ 23)
 
 -- the bytes are a well-formed announcement, and say this
 abbrev pub Announces : List ℕ → Announcement → Type 0
-Announces ab a = read_announcement ab ≡ A.Read a
+Announces ab a = read_announcement ab ≡ Some a
 
 -- the bytes are a well-formed query, and say this
 abbrev pub Queries : List ℕ → Query → Type 0
-Queries qb q = read_query qb ≡ Q.Read q
+Queries qb q = read_query qb ≡ Some q
 
 -- the bytes are a well-formed checkpoint and a well-formed start record, and this is the checkpoint's seat that the record names
 pub record Starts (cb sb : List ℕ) (y : Start) (seat : Seat) : Type 0 where
   pub checkpoint : is_checkpoint cb ≡ true
-  pub record-read : read_start sb ≡ S.Read y
+  pub record-read : read_start sb ≡ Some y
   pub named : seat ≡ seat_at y.seat (read_checkpoint cb).state.seats
 
 -- 1: a record, start's checkpoint, or a query's counts
 pub data Malformed : Asked → Type 0 where
   of-checkpoint : {cb sb : List ℕ} → is_checkpoint cb ≡ false → Malformed (start cb sb)
-  of-start : {cb sb : List ℕ} → read_start sb ≡ S.Malformed → Malformed (start cb sb)
-  of-announcement : {n : Node} {ab sb : List ℕ} → read_announcement ab ≡ A.Malformed → Malformed (at n (deliver ab sb))
-  of-query : {n : Node} {qb : List ℕ} → read_query qb ≡ Q.Malformed → Malformed (at n (query qb))
+  of-start : {cb sb : List ℕ} → read_start sb ≡ None → Malformed (start cb sb)
+  of-announcement : {n : Node} {ab sb : List ℕ} → read_announcement ab ≡ None → Malformed (at n (deliver ab sb))
+  of-query : {n : Node} {qb : List ℕ} → read_query qb ≡ None → Malformed (at n (query qb))
   -- "a lent count above 10 is rule 1"
   of-count : {n : Node} {qb : List ℕ} (door : ℕ) → most_misses < misses_at door n.counts → Malformed (at n (query qb))
 

@@ -5,8 +5,8 @@ use Rattle.binary.specs.Number.{overwrite}
 use Rattle.checkpoint.specs.Layout.{checkpoint_size}
 use Rattle.checkpoint.specs.Checkpoint.{checkpoint_bytes}
 use Rattle.node.specs.declared.Node.{Node}
-use Rattle.node.specs.declared.CheckpointReply.{CheckpointReply}
-use Rattle.node.specs.declared.CheckpointAnswer.TheVariants.{Given, Refused}
+use Rattle.node.specs.Reply.{CheckpointReply}
+use Rattle.node.specs.CheckpointAnswer.{Given, Refused}
 
 -- checkpoint, of a node and the output slice: what is handed back
 unfoldable pub checkpoint_of : Node → List ℕ → CheckpointReply

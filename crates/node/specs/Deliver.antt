@@ -1,10 +1,8 @@
 -- "Deliver. If no number from 1 to 14 applies and the sheet shows a quorum of the state before the action, the node performs it: cycle plus 1, day as
 -- announced, vote cleared, misses 0. Without a quorum it votes, unless 15 or 16 applies; the same 24 bytes later in that cycle get the same vote."
-use Rattle.std.specs.Prelude.{ℕ, List, cond, eqb}
+use Rattle.std.specs.Prelude.{ℕ, List, cond, eqb, Option, Some, None}
 use Rattle.state.specs.declared.State.{State}
 use Rattle.records.specs.declared.Announcement.{Announcement}
-use Rattle.records.specs.declared.AnnouncementRead.{AnnouncementRead}
-use Rattle.records.specs.declared.AnnouncementRead.TheVariants.{Read, Malformed}
 use Rattle.records.specs.Announcement.{read_announcement}
 use Rattle.records.specs.Sheet.{is_sheet}
 use Rattle.actions.specs.Perform.{without_lapsed, perform}
@@ -13,8 +11,8 @@ use Rattle.verdicts.specs.Own.{own_afresh, with_vote}
 use Rattle.verdicts.specs.Attempts.{no_misses}
 use Rattle.verdicts.specs.Verdicts.{deliver_refusal, shows_quorum, vote_refusal}
 use Rattle.node.specs.declared.Node.{Node}
-use Rattle.node.specs.declared.DeliverReply.{DeliverReply}
-use Rattle.node.specs.declared.DeliverAnswer.TheVariants.{Done, Voted, Refused}
+use Rattle.node.specs.Reply.{DeliverReply}
+use Rattle.node.specs.DeliverAnswer.{Done, Voted, Refused}
 
 abbrev pub refuses_delivery : Node → ℕ → DeliverReply
 refuses_delivery n k = record { node = n; answer = Refused k }
@@ -43,9 +41,9 @@ deliver_read n ab a sb =
     (refuses_delivery n k)
 
 -- 1 "record other than a sheet, checkpoint or image malformed", 2 "sheet malformed"
-abbrev pub deliver_records : Node → List ℕ → AnnouncementRead → List ℕ → DeliverReply
-deliver_records n ab Malformed sb = refuses_delivery n 1
-deliver_records n ab (Read a) sb = cond (is_sheet sb) (deliver_read n ab a sb) (refuses_delivery n 2)
+abbrev pub deliver_records : Node → List ℕ → Option Announcement → List ℕ → DeliverReply
+deliver_records n ab None sb = refuses_delivery n 1
+deliver_records n ab (Some a) sb = cond (is_sheet sb) (deliver_read n ab a sb) (refuses_delivery n 2)
 
 -- deliver, of a node and the two records' bytes
 unfoldable pub deliver_of : Node → List ℕ → List ℕ → DeliverReply

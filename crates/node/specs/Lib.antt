@@ -1,4 +1,11 @@
 -- The calls by value.
+pub mod StartAnswer
+pub mod DeliverAnswer
+pub mod QueryAnswer
+pub mod CheckpointAnswer
+pub mod PageAnswer
+pub mod Reply
+pub mod Code
 pub mod Answers
 pub mod Deliver
 pub mod Query

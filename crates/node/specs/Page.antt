@@ -6,8 +6,8 @@ use Rattle.state.specs.declared.Day.{Day}
 use Rattle.page.specs.Layout.{line_size}
 use Rattle.page.specs.Page.{line_count, page_text}
 use Rattle.node.specs.declared.Node.{Node}
-use Rattle.node.specs.declared.PageReply.{PageReply}
-use Rattle.node.specs.declared.PageAnswer.TheVariants.{Given, Refused}
+use Rattle.node.specs.Reply.{PageReply}
+use Rattle.node.specs.PageAnswer.{Given, Refused}
 
 -- the slice has room for the page
 abbrev pub page_fits : Node → List ℕ → Bool

@@ -1,8 +1,7 @@
 -- "Query. Let t be the later of given and agreed day. Open when nothing below applies. 19, 20 and 21 add a miss; open sets misses to 0; 17 and 18
 -- don't touch them." The misses are those at the query's door.
-use Rattle.std.specs.Prelude.{ℕ, ◌+◌, List, Bool, cond, ◌&&◌, eqb, leb}
-use Rattle.records.specs.declared.QueryRead.{QueryRead}
-use Rattle.records.specs.declared.QueryRead.TheVariants.{Read, Malformed}
+use Rattle.std.specs.Prelude.{ℕ, ◌+◌, List, Bool, cond, ◌&&◌, eqb, leb, Option, Some, None}
+use Rattle.records.specs.declared.Query.{Query}
 use Rattle.records.specs.StartQuery.{read_query}
 use Rattle.state.specs.declared.State.{State}
 use Rattle.verdicts.specs.declared.Own.{Own}
@@ -10,9 +9,9 @@ use Rattle.verdicts.specs.declared.AttemptCounts.{AttemptCounts}
 use Rattle.verdicts.specs.Attempts.{misses_at, with_misses, are_in_range}
 use Rattle.verdicts.specs.Verdicts.{query_refusal}
 use Rattle.node.specs.declared.Node.{Node}
-use Rattle.node.specs.declared.CountedAnswer.{CountedAnswer}
-use Rattle.node.specs.declared.QueryReply.{QueryReply}
-use Rattle.node.specs.declared.QueryAnswer.TheVariants.{Open, Refused}
+use Rattle.node.specs.Reply.{CountedAnswer}
+use Rattle.node.specs.Reply.{QueryReply}
+use Rattle.node.specs.QueryAnswer.{Open, Refused}
 
 -- "19, 20 and 21 add a miss"
 abbrev pub adds_miss : ℕ → Bool
@@ -29,9 +28,9 @@ answered c door k =
     (refuses_query c k))
 
 -- "A door above 3 or a lent count above 10 is rule 1.": a query that names such a door is malformed
-abbrev pub ask_record : State → Own → AttemptCounts → QueryRead → CountedAnswer
-ask_record s o c Malformed = refuses_query c 1
-ask_record s o c (Read q) = cond (are_in_range c) (answered c q.door (query_refusal s o c q)) (refuses_query c 1)
+abbrev pub ask_record : State → Own → AttemptCounts → Option Query → CountedAnswer
+ask_record s o c None = refuses_query c 1
+ask_record s o c (Some q) = cond (are_in_range c) (answered c q.door (query_refusal s o c q)) (refuses_query c 1)
 
 -- query, of a state, an own part, the counts and the record's bytes
 unfoldable pub ask_of : State → Own → AttemptCounts → List ℕ → CountedAnswer

@@ -1,6 +1,6 @@
 -- Which nodes are well formed: "seat 1, life 4 (at least 1), voted flag 1 (0 or 1), voted announcement 24 (zero if none, else well formed and of this
 -- cycle), misses 1. The seat isn't free."
-use Rattle.std.specs.Prelude.{◌≡◌, ℕ, List, Bool, true, false, cond, not, ◌&&◌, eqb, ltb, leb}
+use Rattle.std.specs.Prelude.{◌≡◌, ℕ, List, Bool, true, false, cond, not, ◌&&◌, eqb, ltb, leb, Option, Some, None}
 use Rattle.lists.specs.Fold.{all}
 use Rattle.binary.specs.Number.{Bytes}
 use Rattle.binary.specs.Codec.{Codec, byte, number, onto, rows, ◌⊗◌}
@@ -10,8 +10,7 @@ use Rattle.state.specs.Limits.{seat_count}
 use Rattle.state.specs.Time.{is_same_cycle}
 use Rattle.state.specs.Seats.{free}
 use Rattle.state.specs.WellFormed.{is_well_formed}
-use Rattle.records.specs.declared.AnnouncementRead.{AnnouncementRead}
-use Rattle.records.specs.declared.AnnouncementRead.TheVariants.{Read, Malformed}
+use Rattle.records.specs.declared.Announcement.{Announcement}
 use Rattle.records.specs.Layout.{announcement_size, door_count}
 use Rattle.records.specs.Announcement.{read_announcement}
 use Rattle.checkpoint.specs.Checkpoint as Checkpoint
@@ -20,7 +19,7 @@ use Rattle.verdicts.specs.declared.AttemptCounts.{AttemptCounts}
 use Rattle.verdicts.specs.Own.{held_seat}
 use Rattle.verdicts.specs.Attempts.{are_in_range}
 use Rattle.node.specs.declared.Node.{Node}
-use Rattle.node.specs.declared.StartAnswer.TheVariants.{Started}
+use Rattle.node.specs.StartAnswer.{Started}
 use Rattle.node.specs.Start.{start_of}
 use Rattle.node.specs.Deliver.{deliver_of}
 use Rattle.node.specs.Query.{query_of}
@@ -54,9 +53,9 @@ abbrev pub Fits : Node → Type 0
 Fits n = Checkpoint.Fits n.state × own_fields.Fits (fields_of n.own n.counts)
 
 -- a well-formed announcement of this cycle
-abbrev pub is_read_in : Cycle → AnnouncementRead → Bool
-is_read_in c Malformed = false
-is_read_in c (Read a) = is_same_cycle a.cycle c
+abbrev pub is_read_in : Cycle → Option Announcement → Bool
+is_read_in c None = false
+is_read_in c (Some a) = is_same_cycle a.cycle c
 
 -- "zero if none, else well formed and of this cycle"
 unfoldable pub is_well_formed_vote : Cycle → Bool → List ℕ → Bool

@@ -1,6 +1,7 @@
 // The node, and what each of its calls hands back.
 #![tactic(auto)]
 
+use refusals::Refusal;
 use state::State;
 use verdicts::{AttemptCounts, Own};
 
@@ -17,73 +18,23 @@ pub struct Node {
     pub counts: AttemptCounts,
 }
 
-// Refused holds the number of the rule.
+// The next node, with the answer or why there is none. A refused start yields no node: the blank one stands for it.
 #[derive(Clone, Copy)]
-pub enum StartAnswer {
-    Started,
-    Refused(u8),
+pub struct Reply<T> {
+    pub node: Node,
+    pub answer: Result<T, Refusal>,
 }
 
-#[derive(Clone, Copy)]
-pub enum DeliverAnswer {
+// What became of an announcement that is not refused.
+#[derive(Clone, Copy, Debug, PartialEq, Eq)]
+pub enum Delivered {
     Done,
     Voted,
-    Refused(u8),
 }
 
-#[derive(Clone, Copy)]
-pub enum QueryAnswer {
-    Open,
-    Refused(u8),
-}
-
-#[derive(Clone, Copy)]
-pub enum CheckpointAnswer {
-    Given,
-    Refused(u8),
-}
-
-// Given holds the number of lines.
-#[derive(Clone, Copy)]
-pub enum PageAnswer {
-    Given(u8),
-    Refused(u8),
-}
-
-// A refused start yields no node: the blank one stands for it.
-#[derive(Clone, Copy)]
-pub struct StartReply {
-    pub node: Node,
-    pub answer: StartAnswer,
-}
-
-#[derive(Clone, Copy)]
-pub struct DeliverReply {
-    pub node: Node,
-    pub answer: DeliverAnswer,
-}
-
-#[derive(Clone, Copy)]
-pub struct QueryReply {
-    pub node: Node,
-    pub answer: QueryAnswer,
-}
-
-// An answer, and the counts of misses after it.
+// The answer to a query, and the counts of misses after it.
 #[derive(Clone, Copy)]
 pub struct CountedAnswer {
     pub counts: AttemptCounts,
-    pub answer: QueryAnswer,
-}
-
-#[derive(Clone, Copy)]
-pub struct CheckpointReply {
-    pub node: Node,
-    pub answer: CheckpointAnswer,
-}
-
-#[derive(Clone, Copy)]
-pub struct PageReply {
-    pub node: Node,
-    pub answer: PageAnswer,
+    pub answer: Result<(), Refusal>,
 }

@@ -11,8 +11,8 @@ use borrow.Author.Tests.{ne_eqb, lt-leb}
 use Rattle.binary.specs.Number.{overwrite}
 use Rattle.checkpoint.specs.Claims.{ReadState}
 use Rattle.node.specs.declared.Node.{Node}
-use Rattle.node.specs.declared.StartReply.{StartReply}
-use Rattle.node.specs.declared.StartAnswer.TheVariants.{Started}
+use Rattle.node.specs.Reply.{StartReply}
+use Rattle.node.specs.StartAnswer.{Started}
 use Rattle.node.specs.Answers.{start_number}
 use Rattle.node.specs.Start.{start_of}
 use Rattle.node.specs.Claims.{Starting, refuses, starts}

@@ -3,18 +3,13 @@ use Rattle.std.specs.Prelude.{ℕ, ◌*◌, ◌%◌, List, Bool, cond, ◌||◌,
 use Rattle.binary.specs.Number.{overwrite}
 use Rattle.node.specs.declared.Node.{Node}
 use Rattle.state.specs.Time.{cycle, day}
-use Rattle.roster.specs.declared.RosterAnswer.{RosterAnswer}
-use Rattle.roster.specs.declared.RosterAnswer.TheVariants as R
 use Rattle.roster.specs.Calls.{Outcome, import_of, export_of}
-use Rattle.shares.specs.declared.SplitAnswer.{SplitAnswer}
-use Rattle.shares.specs.declared.SplitAnswer.TheVariants as Split
-use Rattle.shares.specs.declared.MergeAnswer.{MergeAnswer}
-use Rattle.shares.specs.declared.MergeAnswer.TheVariants as Merge
-use Rattle.shares.specs.declared.AddAnswer.{AddAnswer}
-use Rattle.shares.specs.declared.AddAnswer.TheVariants as Add
 use Rattle.shares.specs.Calls.{split_of, merge_of, add_of}
-use Rattle.node.specs.declared.PageAnswer.{PageAnswer}
-use Rattle.node.specs.declared.PageAnswer.TheVariants as P
+use Rattle.std.specs.Prelude.{Result, Ok, Err}
+use Rattle.refusals.specs.declared.Refusal.{Refusal}
+use Rattle.refusals.specs.Refusals.{number_of, number_in}
+use Rattle.node.specs.PageAnswer.{PageAnswer}
+use Rattle.node.specs.PageAnswer as P
 use Rattle.node.specs.Answers.{start_number, deliver_number, query_number, checkpoint_number}
 use Rattle.node.specs.Start.{start_of}
 use Rattle.node.specs.Deliver.{deliver_of}
@@ -89,13 +84,13 @@ node_page image d out = on_node_in image out (λ n. record { number = page_retur
 
 -- ---- rosters, which ask nothing of a node
 
--- the answer in the low 8 bits, and above them the number of announcements or the length of the line, which is 0 for a refusal
-abbrev pub roster_returned : RosterAnswer → ℕ
-roster_returned (R.Given n) = 256 * n
-roster_returned (R.Refused k) = k
+-- the answer in the low 8 bits, and above them what is given, the number of announcements or of shares or the length of a line, which is 0 for a refusal
+abbrev pub value_returned : Result ℕ Refusal → ℕ
+value_returned (Ok n) = 256 * n
+value_returned (Err r) = number_of r
 
 abbrev pub roster_return : Outcome → Returned
-roster_return x = record { number = roster_returned x.answer; slice = x.slice }
+roster_return x = record { number = value_returned x.answer; slice = x.slice }
 
 unfoldable pub node_roster_import : List ℕ → ℕ → ℕ → List ℕ → Returned
 node_roster_import roster c d out = roster_return (import_of roster (cycle c) (day d) out)
@@ -105,29 +100,20 @@ node_roster_export announcement out = roster_return (export_of announcement out)
 
 -- ---- partial keys, which ask nothing of a node
 
--- the answer in the low 8 bits, and above them the number of shares, which is 0 for a refusal
-abbrev pub split_returned : SplitAnswer → ℕ
-split_returned (Split.Given n) = 256 * n
-split_returned (Split.Refused k) = k
-
-abbrev pub merge_returned : MergeAnswer → ℕ
-merge_returned Merge.Given = 0
-merge_returned (Merge.Refused k) = k
-
 unfoldable pub node_shares_split : List ℕ → ℕ → ℕ → List ℕ → List ℕ → Returned
 node_shares_split key k n coefficients out =
     let x = split_of key k n coefficients out in
-    record { number = split_returned x.answer; slice = x.slice }
+    record { number = value_returned x.answer; slice = x.slice }
 
 unfoldable pub node_shares_merge : ℕ → ℕ → List ℕ → List ℕ → List ℕ → Returned
 node_shares_merge k n numbers shares out =
     let x = merge_of k n numbers shares out in
-    record { number = merge_returned x.answer; slice = x.slice }
+    record { number = number_in x.answer; slice = x.slice }
 
 -- the number of bytes above the answer, where there are 24 bits: of a longer run the low 24 of its length
-abbrev pub add_returned : AddAnswer → ℕ
-add_returned (Add.Given bytes) = 256 * (bytes % 16777216)
-add_returned (Add.Refused k) = k
+abbrev pub add_returned : Result ℕ Refusal → ℕ
+add_returned (Ok bytes) = 256 * (bytes % 16777216)
+add_returned (Err r) = number_of r
 
 unfoldable pub node_shares_add : List ℕ → List ℕ → List ℕ → Returned
 node_shares_add first second out =

@@ -2,6 +2,7 @@
 #![tactic(auto)]
 
 mod entries;
+mod numbers;
 mod partial_keys;
 
 pub use entries::{

@@ -16,7 +16,7 @@ use Rattle.state.specs.declared.Day.{Day}
 use Rattle.records.specs.declared.Action.{Action}
 use Rattle.records.specs.declared.Action.TheVariants.{Propose, Cancel, Presents, Certify, Minima, Remove, Rejoin, Grant, End}
 use Rattle.records.specs.declared.Announcement.{Announcement}
-use Rattle.records.specs.declared.AnnouncementRead.TheVariants.{Read}
+use Rattle.std.specs.Prelude.{Some}
 use Rattle.records.specs.Announcement.{announcing, read_propose, read_cancel, read_presents, read_certify, read_minima}
 use Rattle.records.specs.Announcement.{read_remove, read_rejoin, read_grant, read_end, read_kind, read_announcement, announcement_bytes}
 use Rattle.records.specs.Claims.{ActionInRange, AnnouncementsReadBack}
@@ -29,7 +29,7 @@ module _ (c : Cycle) (d : Day) (hc : c.0 < 2 ^ 32) (hd : d.0 < 2 ^ 32) where
   time : (from_bytes 4 (to_bytes 4 c.0) ≡ c.0) × (from_bytes 4 (to_bytes 4 d.0) ≡ d.0)
   time = (rw append-nil at (number-read-back 4 c.0 hc []), rw append-nil at (number-read-back 4 d.0 hd []))
 
-  back : (x : Action) → ActionInRange x → read_announcement (announcement_bytes (announced x)) ≡ Read (announced x)
+  back : (x : Action) → ActionInRange x → read_announcement (announcement_bytes (announced x)) ≡ Some (announced x)
   unfolding announcement_bytes read_announcement read_kind announcing to_bytes from_bytes is_zero_from fill all
       read_propose read_cancel read_presents read_certify read_minima read_remove read_rejoin read_grant read_end
   back (Propose x) h =

@@ -11,6 +11,7 @@ use lib.ListN.{length, get_or}
 use lib.Bits.{bit_or, or_shr, or_mod}
 use lib.Pow.{shr-shr, shl_exact}
 use lib.Count.{ones, ones_step, ones-le}
+use Rattle.std.specs.Int.{from_bool}
 use Rattle.lists.specs.Fold.{count_from}
 use Rattle.records.specs.Code.{test_bit}
 
@@ -40,6 +41,11 @@ bit-power (suc j) zero = let even : 2 ^ suc j / 1 % 2 ≡ 0 = omega (arith, pow-
 bit-power (suc j) (suc k) =
     let half : 2 ^ suc j / 2 ≡ 2 ^ j = omega (arith, pow-suc 2 j) in
     rw eqb-suc-suc (bit-suc (2 ^ suc j) k ∙ rw half (bit-power j k))
+
+-- A flag as a number.
+pub flag-number : (h : Bool) → from_bool h ≡ cond h 1 0
+flag-number true = refl
+flag-number false = refl
 
 -- Bit j of 32 alone, where h holds.
 pub bit_shifted : (h : Bool) (j k : ℕ) → j < 32 → test_bit ((cond h 1 0 * 2 ^ j) % 2 ^ 32) k ≡ (h && eqb j k)

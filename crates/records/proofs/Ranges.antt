@@ -15,10 +15,8 @@ use Rattle.state.specs.Limits.{seat_count}
 use Rattle.state.specs.Kinds.{kind_propose, kind_cancel, kind_presents, kind_certify, kind_minima, kind_remove, kind_rejoin, kind_grant, kind_end}
 use Rattle.records.specs.declared.Action.{Action}
 use Rattle.records.specs.declared.Announcement.{Announcement}
-use Rattle.records.specs.declared.AnnouncementRead.{AnnouncementRead}
-use Rattle.records.specs.declared.AnnouncementRead.TheVariants as A
-use Rattle.records.specs.declared.StartRead.{StartRead}
-use Rattle.records.specs.declared.StartRead.TheVariants as S
+use Rattle.std.specs.Prelude.{Option, Some, None}
+use Rattle.records.specs.declared.Start.{Start}
 use Rattle.records.specs.Layout.{announcement_length, announcement_size, start_length, kind_start}
 use Rattle.records.specs.Announcement.{announcing, read_propose, read_cancel, read_presents, read_certify, read_minima}
 use Rattle.records.specs.Announcement.{read_remove, read_rejoin, read_grant, read_end, read_kind, read_announcement}
@@ -26,13 +24,13 @@ use Rattle.records.specs.StartQuery.{read_start}
 use Rattle.records.specs.Claims.{ActionInRange, AnnouncementInRange, AnnouncementsInRange, StartsInRange}
 
 -- The two claims, of what reading gives. Of malformed bytes they say nothing.
-InRange : List ℕ → AnnouncementRead → Type 0
-InRange b (A.Read a) = (length b ≡ announcement_size) × AnnouncementInRange a
-InRange b A.Malformed = Unit {0}
+InRange : List ℕ → Option Announcement → Type 0
+InRange b (Some a) = (length b ≡ announcement_size) × AnnouncementInRange a
+InRange b None = Unit {0}
 
-StartInRange : StartRead → Type 0
-StartInRange (S.Read x) = (x.seat < seat_count) × (x.life < 2 ^ 32)
-StartInRange S.Malformed = Unit {0}
+StartInRange : Option Start → Type 0
+StartInRange (Some x) = (x.seat < seat_count) × (x.life < 2 ^ 32)
+StartInRange None = Unit {0}
 
 module _ (b : List ℕ) (h : Bytes b) where
   -- A number that is read is within its width.
@@ -97,10 +95,10 @@ module _ (b : List ℕ) (h : Bytes b) where
         (λ _. tt)))))))))
 
 -- An announcement that is read is 24 bytes long.
-pub announcement-size : (b : List ℕ) (a : Announcement) → read_announcement b ≡ A.Read a → length b ≡ announcement_size
+pub announcement-size : (b : List ℕ) (a : Announcement) → read_announcement b ≡ Some a → length b ≡ announcement_size
 unfolding read_announcement
 announcement-size b a =
-    cond_cases (λ (r : AnnouncementRead). r ≡ A.Read a → length b ≡ announcement_size) (is_framed announcement_length b)
+    cond_cases (λ (r : Option Announcement). r ≡ Some a → length b ≡ announcement_size) (is_framed announcement_length b)
     (λ f e. framed-length announcement_length b f) (λ f e. clash (cc))
 
 pub announcements-in-range : AnnouncementsInRange

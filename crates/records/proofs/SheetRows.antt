@@ -65,15 +65,14 @@ module _ (b : List ℕ) (seats : List Seat) where
   abbrev hits : ℕ → ℕ → Bool
   hits j life = is_present (seat_at j seats) && eqb life (seat_at j seats).life
 
-  -- The loop that marks the seats which count, bit k for seat k, after i of the n rows: a seat is marked or counts on the rows that are left exactly
+  -- The loop that marks the seats which count, bit k for seat k, after i rows: a seat is marked or counts on the rows that are left exactly
   -- where it counts on all.
-  pub record Seen (n i seen : ℕ) : Type 0 where
+  pub record Seen (i seen : ℕ) : Type 0 where
     pub sheet : Sheet b
-    pub rows : n ≡ byte_at 6 b
     pub marks : (k : ℕ) → (test_bit seen k || counts_from i k) ≡ counts (rows_of b) k (seat_at k seats)
 
-  pub seen_start : (n : ℕ) → is_sheet b ≡ true → n ≡ byte_at 6 b → Seen n 0 0
-  seen_start n e h = record { sheet = sheet-of b e; rows = h; marks = λ k. rw (no_bits k) }
+  pub seen_start : is_sheet b ≡ true → Seen 0 0
+  seen_start e = record { sheet = sheet-of b e; marks = λ k. rw (no_bits k) }
 
   -- The seat that the row names is the only one that it hits.
   only-named : (j k life : ℕ) → (is_present (seat_at k seats) && (eqb j k && eqb life (seat_at k seats).life)) ≡ (hits j life && eqb j k)
@@ -90,14 +89,12 @@ module _ (b : List ℕ) (seats : List Seat) where
       rw (add-one i, drop-cons (rows_of b) i no_row (rw sheet-rows h), sheet-row b i h, ← p, ← q, ← only-named j k life)
       (counts-row _ _ k (seat_at k seats))
 
-  pub seen-turn : (n i j life hit seen : ℕ) → Seen n i seen → i < n → j ≡ byte_at (7 + 5 * i) b → life ≡ field 4 (7 + 5 * i + 1) b
-      → hit ≡ cond (hits j life) 1 0 → Seen n (i + 1) (bit_or seen ((hit * 2 ^ j) % 2 ^ 32))
-  seen-turn n i j life hit seen s l p q e =
-      let h : i < byte_at 6 b = omega arith in
+  pub seen-turn : (i j life hit seen : ℕ) → Seen i seen → i < byte_at 6 b → j ≡ byte_at (7 + 5 * i) b → life ≡ field 4 (7 + 5 * i + 1) b
+      → hit ≡ cond (hits j life) 1 0 → Seen (i + 1) (bit_or seen ((hit * 2 ^ j) % 2 ^ 32))
+  seen-turn i j life hit seen s h p q e =
       let m : j < 32 = omega (arith, s.sheet.seat i h) in
       record {
         sheet = s.sheet;
-        rows = s.rows;
         marks = λ k. rw (
           e,
           bit-or seen ((cond (hits j life) 1 0 * 2 ^ j) % 2 ^ 32) k,
@@ -112,5 +109,5 @@ module _ (b : List ℕ) (seats : List Seat) where
   unfolding counts any
   none_left i k h = rw (drop_of_length-le (rows_of b) {i = i} (rw sheet-rows h)) (and-false (is_present (seat_at k seats)))
 
-  pub seen_end : (n i seen : ℕ) → Seen n i seen → n ≤ i → (k : ℕ) → test_bit seen k ≡ counts (rows_of b) k (seat_at k seats)
-  seen_end n i seen s h k = sym (rw (none_left i k (omega arith)) (or-false _)) ∙ s.marks k
+  pub seen_end : (i seen : ℕ) → Seen i seen → byte_at 6 b ≤ i → (k : ℕ) → test_bit seen k ≡ counts (rows_of b) k (seat_at k seats)
+  seen_end i seen s h k = sym (rw (none_left i k h) (or-false _)) ∙ s.marks k

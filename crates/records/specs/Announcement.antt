@@ -1,5 +1,5 @@
 -- "Announcement, 24 bytes: length 22; kind 1 to 9; cycle (4); day (4); 12 argument bytes, unused ones zero."
-use Rattle.std.specs.Prelude.{ℕ, List, [], ◌∷◌, ◌++◌, Bool, cond, ◌&&◌, eqb, ltb, leb}
+use Rattle.std.specs.Prelude.{ℕ, List, [], ◌∷◌, ◌++◌, Bool, cond, ◌&&◌, eqb, ltb, leb, Option, Some, None}
 use Rattle.lists.specs.Table.{fill}
 use Rattle.binary.specs.Number.{to_bytes, byte_at, field, is_zero_from, is_framed}
 use Rattle.state.specs.declared.Minima as M
@@ -12,37 +12,35 @@ use Rattle.state.specs.Subjects.{is_subject}
 use Rattle.records.specs.declared.Announcement.{Announcement}
 use Rattle.records.specs.declared.Action.{Action}
 use Rattle.records.specs.declared.Action.TheVariants.{Propose, Cancel, Presents, Certify, Minima, Remove, Rejoin, Grant, End}
-use Rattle.records.specs.declared.AnnouncementRead.{AnnouncementRead}
-use Rattle.records.specs.declared.AnnouncementRead.TheVariants.{Read, Malformed}
 use Rattle.records.specs.Layout.{announcement_length, arguments_size}
 use Rattle.records.specs.Actions.{kind_of}
 
 -- the announcement of this action, with the record's cycle and day, where its arguments are well formed
-unfoldable pub announcing : List ℕ → Bool → Action → AnnouncementRead
-announcing b ok x = cond ok (Read (record { cycle = cycle (field 4 4 b); day = day (field 4 8 b); action = x })) Malformed
+unfoldable pub announcing : List ℕ → Bool → Action → Option Announcement
+announcing b ok x = cond ok (Some (record { cycle = cycle (field 4 4 b); day = day (field 4 8 b); action = x })) None
 
 -- the argument bytes of each kind start at index 12; "seats are below 32"
-unfoldable pub read_propose : List ℕ → AnnouncementRead
+unfoldable pub read_propose : List ℕ → Option Announcement
 read_propose b =
     let x : Subject = record { kind = field 2 12 b; arguments = field 8 14 b } in
     announcing b (is_zero_from 22 b && is_subject x) (Propose x)
 
-unfoldable pub read_cancel : List ℕ → AnnouncementRead
+unfoldable pub read_cancel : List ℕ → Option Announcement
 read_cancel b = announcing b (is_zero_from 16 b) (Cancel (cycle (field 4 12 b)))
 
-unfoldable pub read_presents : List ℕ → AnnouncementRead
+unfoldable pub read_presents : List ℕ → Option Announcement
 read_presents b =
     let seat = byte_at 12 b in
     let flag = byte_at 13 b in
     announcing b (is_zero_from 14 b && (ltb seat seat_count && leb flag 1)) (Presents seat (eqb flag 1))
 
-unfoldable pub read_certify : List ℕ → AnnouncementRead
+unfoldable pub read_certify : List ℕ → Option Announcement
 read_certify b =
     let seat = byte_at 12 b in
     let life = field 4 13 b in
     announcing b (is_zero_from 17 b && (ltb seat seat_count && leb 1 life)) (Certify seat life)
 
-unfoldable pub read_minima : List ℕ → AnnouncementRead
+unfoldable pub read_minima : List ℕ → Option Announcement
 read_minima b =
     let x : M.Minima = record {
       margin = byte_at 12 b;
@@ -52,27 +50,27 @@ read_minima b =
     } in
     announcing b (is_zero_from 18 b && is_in_range x) (Minima x)
 
-unfoldable pub read_remove : List ℕ → AnnouncementRead
+unfoldable pub read_remove : List ℕ → Option Announcement
 read_remove b =
     let seat = byte_at 12 b in
     announcing b (is_zero_from 13 b && ltb seat seat_count) (Remove seat)
 
-unfoldable pub read_rejoin : List ℕ → AnnouncementRead
+unfoldable pub read_rejoin : List ℕ → Option Announcement
 read_rejoin b =
     let seat = byte_at 12 b in
     announcing b (is_zero_from 17 b && ltb seat seat_count) (Rejoin seat (field 4 13 b))
 
-unfoldable pub read_grant : List ℕ → AnnouncementRead
+unfoldable pub read_grant : List ℕ → Option Announcement
 read_grant b =
     let login = field 4 12 b in
     let rights = field 2 20 b in
     announcing b (is_zero_from 22 b && (leb 1 login && leb 1 rights)) (Grant (record { login = login; end = day (field 4 16 b); rights = rights }))
 
-unfoldable pub read_end : List ℕ → AnnouncementRead
+unfoldable pub read_end : List ℕ → Option Announcement
 read_end b = announcing b (is_zero_from 16 b) (End (field 4 12 b))
 
 -- the arguments of each kind; other kinds are malformed
-unfoldable pub read_kind : ℕ → List ℕ → AnnouncementRead
+unfoldable pub read_kind : ℕ → List ℕ → Option Announcement
 read_kind kind b =
     cond (eqb kind kind_propose) (read_propose b)
     (cond (eqb kind kind_cancel) (read_cancel b)
@@ -83,10 +81,10 @@ read_kind kind b =
     (cond (eqb kind kind_rejoin) (read_rejoin b)
     (cond (eqb kind kind_grant) (read_grant b)
     (cond (eqb kind kind_end) (read_end b)
-    Malformed))))))))
+    None))))))))
 
-unfoldable pub read_announcement : List ℕ → AnnouncementRead
-read_announcement b = cond (is_framed announcement_length b) (read_kind (field 2 2 b) b) Malformed
+unfoldable pub read_announcement : List ℕ → Option Announcement
+read_announcement b = cond (is_framed announcement_length b) (read_kind (field 2 2 b) b) None
 
 -- ---- written
 

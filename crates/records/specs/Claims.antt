@@ -1,5 +1,5 @@
 -- What reading a record tells, and what a count of seats tells.
-use Rattle.std.specs.Prelude.{◌≡◌, true, ℕ, ◌+◌, ◌*◌, ◌^◌, ◌≤◌, ◌<◌, length}
+use Rattle.std.specs.Prelude.{◌≡◌, true, ℕ, ◌+◌, ◌*◌, ◌^◌, ◌≤◌, ◌<◌, length, Some}
 use mathlib.Core.List.{List, [], ◌∷◌, ◌++◌, Memᴰ}
 use Rattle.binary.specs.Number.{Bytes}
 use Rattle.state.specs.declared.Seat.{Seat}
@@ -11,9 +11,7 @@ use Rattle.state.specs.Subjects.{is_subject}
 use Rattle.records.specs.declared.Action.{Action}
 use Rattle.records.specs.declared.Action.TheVariants.{Propose, Cancel, Presents, Certify, Minima, Remove, Rejoin, Grant, End}
 use Rattle.records.specs.declared.Announcement.{Announcement}
-use Rattle.records.specs.declared.AnnouncementRead.TheVariants as A
 use Rattle.records.specs.declared.Start.{Start}
-use Rattle.records.specs.declared.StartRead.TheVariants as S
 use Rattle.records.specs.Layout.{announcement_size, row_size, most_rows, kind_query, query_length, kind_door_query, door_query_length}
 use Rattle.records.specs.Announcement.{read_announcement, announcement_bytes}
 use Rattle.records.specs.Sheet.{Row, row, level1, level2, rows_of, is_sheet, sheet_of, counts, counted_seats, counted_on_both}
@@ -38,16 +36,16 @@ pub record AnnouncementInRange (a : Announcement) : Type 0 where
 
 -- An announcement that is read is 24 bytes long and within its ranges.
 abbrev pub AnnouncementsInRange : Type 0
-AnnouncementsInRange = (b : List ℕ) (a : Announcement) → Bytes b → read_announcement b ≡ A.Read a → (length b ≡ announcement_size)
+AnnouncementsInRange = (b : List ℕ) (a : Announcement) → Bytes b → read_announcement b ≡ Some a → (length b ≡ announcement_size)
     × AnnouncementInRange a
 
 -- What is written is read back, for every announcement within its ranges.
 abbrev pub AnnouncementsReadBack : Type 0
-AnnouncementsReadBack = (a : Announcement) → AnnouncementInRange a → read_announcement (announcement_bytes a) ≡ A.Read a
+AnnouncementsReadBack = (a : Announcement) → AnnouncementInRange a → read_announcement (announcement_bytes a) ≡ Some a
 
 -- A start record that is read is within its ranges.
 abbrev pub StartsInRange : Type 0
-StartsInRange = (b : List ℕ) (x : Start) → Bytes b → read_start b ≡ S.Read x → (x.seat < seat_count) × (x.life < 2 ^ 32)
+StartsInRange = (b : List ℕ) (x : Start) → Bytes b → read_start b ≡ Some x → (x.seat < seat_count) × (x.life < 2 ^ 32)
 
 -- "kind 20 means door 0": it is read as the record of kind 21 that has the same login, day and right, and door 0.
 abbrev pub Kind20IsDoor0 : Type 0

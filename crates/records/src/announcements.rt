@@ -4,30 +4,30 @@ ghost use Rattle.records.specs.Layout.{announcement_size};
 ghost use Rattle.records.specs.Announcement as spec;
 
 use super::layout::ANNOUNCEMENT_LENGTH;
-use super::{Action, Announcement, AnnouncementRead};
+use super::{Action, Announcement};
 use binary::{is_framed, is_zero_from, u16_at, u32_at, u64_at};
 use state::kinds::{CANCEL, CERTIFY, END, GRANT, MINIMA, PRESENTS, PROPOSE, REJOIN, REMOVE};
 use state::limits::SEAT_NUMBERS;
 use state::{Cycle, Day, Login, Minima, Notices, Subject};
 
 // The announcement of this action, with the record's cycle and day, where its arguments are well formed.
-fn announcing(b: &[u8], ok: bool, action: Action) -> AnnouncementRead
+fn announcing(b: &[u8], ok: bool, action: Action) -> Option<Announcement>
     requires { announcement_size ≤ length b.now }
     ensures { result ≡ spec.announcing b.now ok action }
 {
     if ok {
-        AnnouncementRead::Read(Announcement {
+        Some(Announcement {
             cycle: Cycle(u32_at(b, 4)),
             day: Day(u32_at(b, 8)),
             action,
         })
     } else {
-        AnnouncementRead::Malformed
+        None
     }
 }
 
 // One function for each kind: its arguments, their ranges, and that the unused bytes are zero.
-fn read_propose(b: &[u8]) -> AnnouncementRead
+fn read_propose(b: &[u8]) -> Option<Announcement>
     requires { announcement_size ≤ length b.now }
     ensures { result ≡ spec.read_propose b.now }
 {
@@ -39,7 +39,7 @@ fn read_propose(b: &[u8]) -> AnnouncementRead
     announcing(b, ok, Action::Propose { subject })
 }
 
-fn read_cancel(b: &[u8]) -> AnnouncementRead
+fn read_cancel(b: &[u8]) -> Option<Announcement>
     requires { announcement_size ≤ length b.now }
     ensures { result ≡ spec.read_cancel b.now }
 {
@@ -47,7 +47,7 @@ fn read_cancel(b: &[u8]) -> AnnouncementRead
     announcing(b, is_zero_from(16, b), Action::Cancel { cycle })
 }
 
-fn read_presents(b: &[u8]) -> AnnouncementRead
+fn read_presents(b: &[u8]) -> Option<Announcement>
     requires { announcement_size ≤ length b.now }
     ensures { result ≡ spec.read_presents b.now }
 {
@@ -64,7 +64,7 @@ fn read_presents(b: &[u8]) -> AnnouncementRead
     )
 }
 
-fn read_certify(b: &[u8]) -> AnnouncementRead
+fn read_certify(b: &[u8]) -> Option<Announcement>
     requires { announcement_size ≤ length b.now }
     ensures { result ≡ spec.read_certify b.now }
 {
@@ -74,7 +74,7 @@ fn read_certify(b: &[u8]) -> AnnouncementRead
     announcing(b, ok, Action::Certify { seat, life })
 }
 
-fn read_minima(b: &[u8]) -> AnnouncementRead
+fn read_minima(b: &[u8]) -> Option<Announcement>
     requires { announcement_size ≤ length b.now }
     ensures { result ≡ spec.read_minima b.now }
 {
@@ -91,7 +91,7 @@ fn read_minima(b: &[u8]) -> AnnouncementRead
     announcing(b, ok, Action::Minima { minima })
 }
 
-fn read_remove(b: &[u8]) -> AnnouncementRead
+fn read_remove(b: &[u8]) -> Option<Announcement>
     requires { announcement_size ≤ length b.now }
     ensures { result ≡ spec.read_remove b.now }
 {
@@ -100,7 +100,7 @@ fn read_remove(b: &[u8]) -> AnnouncementRead
     announcing(b, ok, Action::Remove { seat })
 }
 
-fn read_rejoin(b: &[u8]) -> AnnouncementRead
+fn read_rejoin(b: &[u8]) -> Option<Announcement>
     requires { announcement_size ≤ length b.now }
     ensures { result ≡ spec.read_rejoin b.now }
 {
@@ -110,7 +110,7 @@ fn read_rejoin(b: &[u8]) -> AnnouncementRead
     announcing(b, ok, Action::Rejoin { seat, life })
 }
 
-fn read_grant(b: &[u8]) -> AnnouncementRead
+fn read_grant(b: &[u8]) -> Option<Announcement>
     requires { announcement_size ≤ length b.now }
     ensures { result ≡ spec.read_grant b.now }
 {
@@ -122,7 +122,7 @@ fn read_grant(b: &[u8]) -> AnnouncementRead
     announcing(b, ok, Action::Grant { row })
 }
 
-fn read_end(b: &[u8]) -> AnnouncementRead
+fn read_end(b: &[u8]) -> Option<Announcement>
     requires { announcement_size ≤ length b.now }
     ensures { result ≡ spec.read_end b.now }
 {
@@ -131,7 +131,7 @@ fn read_end(b: &[u8]) -> AnnouncementRead
 }
 
 // The arguments of each kind; other kinds are malformed.
-fn read_kind(kind: u16, b: &[u8]) -> AnnouncementRead
+fn read_kind(kind: u16, b: &[u8]) -> Option<Announcement>
     requires { announcement_size ≤ length b.now }
     ensures { result ≡ spec.read_kind kind b.now }
 {
@@ -145,17 +145,17 @@ fn read_kind(kind: u16, b: &[u8]) -> AnnouncementRead
         REJOIN => read_rejoin(b),
         GRANT => read_grant(b),
         END => read_end(b),
-        _ => AnnouncementRead::Malformed,
+        _ => None,
     }
 }
 
 // Reads bytes that are exactly one well-formed announcement.
-pub fn read_announcement(b: &[u8]) -> AnnouncementRead
+pub fn read_announcement(b: &[u8]) -> Option<Announcement>
     ensures { result ≡ spec.read_announcement b.now }
 {
     if is_framed(b, ANNOUNCEMENT_LENGTH) {
         read_kind(u16_at(b, 2), b)
     } else {
-        AnnouncementRead::Malformed
+        None
     }
 }

@@ -36,23 +36,11 @@ pub struct Announcement {
     pub action: Action,
 }
 
-#[derive(Clone, Copy)]
-pub enum AnnouncementRead {
-    Read(Announcement),
-    Malformed,
-}
-
 // Which seat a node takes, and under which life.
 #[derive(Clone, Copy)]
 pub struct Start {
     pub seat: u8,
     pub life: u32,
-}
-
-#[derive(Clone, Copy)]
-pub enum StartRead {
-    Read(Start),
-    Malformed,
 }
 
 // May this login use this right on this day, at this door?
@@ -62,10 +50,4 @@ pub struct Query {
     pub day: Day,
     pub right: u8,
     pub door: u8,
-}
-
-#[derive(Clone, Copy)]
-pub enum QueryRead {
-    Read(Query),
-    Malformed,
 }

@@ -1,4 +1,5 @@
 -- The rows of the table, in the order of their numbers.
+use mathlib.Core.Logic.{◌≢◌}
 use mathlib.Core.Path.{◌≡◌, refl}
 use Prim.Native.Nat.{◌+◌}
 use mathlib.Core.Bool.{false, cond}
@@ -9,10 +10,10 @@ use denote.Enum.Declared.{tag_of}
 use Rattle.refusals.specs.contracts.Refusal.{the_type}
 use Rattle.refusals.specs.declared.Refusal.{Refusal}
 use Rattle.refusals.specs.declared.Refusal.TheVariants as R
-use Rattle.refusals.specs.Refusals.{number_of, lowest}
+use Rattle.std.specs.Prelude.{Result, Ok, Err}
+use Rattle.refusals.specs.Refusals.{number_of, number_in, lowest}
 
 pub numbered : (r : Refusal) → tag_of the_type r + 1 ≡ number_of r
-unfolding number_of
 numbered R.Malformed = refl
 numbered R.BadSheet = refl
 numbered R.Halted = refl
@@ -55,3 +56,12 @@ lower x y = rw (not-none x) (rw (not-none y) refl)
 pub alone : (x : Refusal) → lowest (number_of x) 0 ≡ number_of x
 unfolding lowest
 alone x = rw (not-none x) refl
+
+-- the same as a negation
+pub refuses : (r : Refusal) → number_of r ≢ 0
+refuses r e = let n = numbered r in omega (arith, n, e)
+
+-- A verdict that does not refuse has none.
+pub passes : {A : Type 0} (v : Result A Refusal) → ((r : Refusal) → v ≡ Err r → ⊥) → number_in v ≡ 0
+passes (Ok x) f = refl
+passes (Err r) f = absurd (f r refl)

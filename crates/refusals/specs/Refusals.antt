@@ -19,7 +19,7 @@ lowest a b = cond (eqb a 0) b (cond (eqb b 0) a (cond (ltb a b) a b))
 -- ---- what the code answers
 
 -- "No.": the rows of the table, and those of 02
-unfoldable pub number_of : Refusal → ℕ
+abbrev pub number_of : Refusal → ℕ
 number_of R.Malformed = 1
 number_of R.BadSheet = 2
 number_of R.Halted = 3

@@ -2,7 +2,7 @@
 #![tactic(auto)]
 
 ghost use Rattle.std.specs.Prelude.{◌≡◌};
-ghost use Rattle.refusals.specs.Refusals.{number_of, refuse_if, lowest, ◌or_else◌};
+ghost use Rattle.refusals.specs.Refusals.{number_of, number_in, refuse_if, lowest};
 
 // A row of the table, under its name in the header for C.
 #[derive(Clone, Copy, Debug, PartialEq, Eq)]
@@ -45,29 +45,20 @@ impl Refusal {
     }
 }
 
-// The number where the rule applies.
-pub fn refuse_if(applies: bool, number: u8) -> u8
-    ensures { result ≡ refuse_if applies number }
+// Refused where the rule applies.
+pub fn refuse_if(applies: bool, refusal: Refusal) -> Result<(), Refusal>
+    ensures { number_in result ≡ refuse_if applies (number_of refusal) }
 {
-    if applies { number } else { 0 }
+    if applies { Err(refusal) } else { Ok(()) }
 }
 
-// The first refusal number, or the second where the first is 0.
-pub fn or_else(a: u8, b: u8) -> u8
-    ensures { result ≡ ◌or_else◌ a b }
+// The lower of two refusals, where either or both refuse.
+pub fn lowest(a: Result<(), Refusal>, b: Result<(), Refusal>) -> Result<(), Refusal>
+    ensures { number_in result ≡ lowest (number_in a) (number_in b) }
 {
-    if a == 0 { b } else { a }
-}
-
-// The lower of two refusal numbers, or the other one where one is 0.
-pub fn lowest(a: u8, b: u8) -> u8
-    ensures { result ≡ lowest a b }
-{
-    if a == 0 {
-        return b;
+    match (a, b) {
+        (Ok(_), verdict) => verdict,
+        (Err(_), Ok(_)) => a,
+        (Err(x), Err(y)) => if x.number() < y.number() { a } else { b },
     }
-    if b == 0 {
-        return a;
-    }
-    if a < b { a } else { b }
 }

@@ -7,8 +7,8 @@ use native.Mathlib.Omega.{arith}
 use lib.ListN.{length, take, drop, length-append, length-drop}
 use lib.Seq.{length-take-le}
 use Rattle.node.specs.declared.Node.{Node}
-use Rattle.node.specs.declared.StartAnswer.{StartAnswer}
-use Rattle.node.specs.declared.StartAnswer.TheVariants as S
+use Rattle.node.specs.StartAnswer.{StartAnswer}
+use Rattle.node.specs.StartAnswer as S
 use Rattle.node.specs.Start.{start_of}
 use Rattle.requests.specs.declared.Answer.{Answer}
 use Rattle.requests.specs.declared.Step.{Step}

@@ -13,7 +13,7 @@ use Rattle.records.specs.Layout.{kind_start}
 use Rattle.node.specs.declared.Node.{Node}
 use Rattle.lists.proofs.Tests.{cond_cases}
 use Rattle.requests.specs.declared.Frame.{Frame}
-use Rattle.requests.specs.declared.Frame.TheVariants.{Record, Cut}
+use Rattle.std.specs.Prelude.{Option, Some, None}
 use Rattle.requests.specs.declared.Step.{Step}
 use Rattle.requests.specs.Framing.{record_head, size_of, kind_of, is_announcement, is_query, is_checkpoint_kind, is_sheet_kind, least_size, has_second}
 use Rattle.requests.specs.Framing.{holds_record, frame_of, holds_request}
@@ -58,9 +58,9 @@ module _ (c : List ℕ) where
       → with_second n fits f (b ++ c) (frame_of (b ++ c)) ≡ with_second n fits f b (frame_of b)
   second-front n fits f b h = rw (frame-front b h) (go (frame_of b) refl)
     where
-      go : (x : Frame) → frame_of b ≡ x → with_second n fits f (b ++ c) x ≡ with_second n fits f b x
-      go Cut e = refl
-      go (Record size k) e = ap (λ (v : List ℕ). cond (fits k) (f size v) (cuts n)) (take-append-le size b c (frame-fits b size k e))
+      go : (x : Option Frame) → frame_of b ≡ x → with_second n fits f (b ++ c) x ≡ with_second n fits f b x
+      go None e = refl
+      go (Some x) e = ap (λ (v : List ℕ). cond (fits x.kind) (f x.size v) (cuts n)) (take-append-le x.size b c (frame-fits b x.size x.kind e))
 
   module _ (n : Node) (b : List ℕ) (size : ℕ) (fits : size ≤ length b) where
     start-front : holds_record (drop size b) ≡ true → step_start n size (b ++ c) ≡ step_start n size b
@@ -81,7 +81,7 @@ module _ (c : List ℕ) where
       let t = simp and-eq-true_iff at h in
       let fits = record-fits b t.0 in
       let second : has_second (kind_of b) ≡ true → holds_record (drop (size_of b) b) ≡ true = λ s. rw s at t.1 in
-      cond_cases (λ (x : Frame). placed n (b ++ c) x ≡ placed n b x) (holds_record b && leb (least_size (kind_of b)) (size_of b))
+      cond_cases (λ (x : Option Frame). placed n (b ++ c) x ≡ placed n b x) (holds_record b && leb (least_size (kind_of b)) (size_of b))
       (λ _. cond_both (eqb (kind_of b) kind_start)
       (λ e. start-front n b (size_of b) fits (second (rw e (or-true (is_announcement (kind_of b))))))
       (λ _. cond_both (is_none n) (λ _. refl)

@@ -11,9 +11,9 @@ use Rattle.binary.specs.Number.{Bytes}
 use Rattle.binary.proofs.Number.{number_fits, bytes_drop}
 use Rattle.lists.proofs.Tests.{cond_cases}
 use Rattle.requests.specs.declared.Frame.{Frame}
-use Rattle.requests.specs.declared.Frame.TheVariants.{Record, Cut}
+use Rattle.std.specs.Prelude.{Option, Some, None}
 use Rattle.requests.specs.Claims.{RoomForRequest}
-use Rattle.requests.specs.Framing.{record_head, size_of, kind_of, least_size, has_second, holds_record, frame_of, holds_request}
+use Rattle.requests.specs.Framing.{framed, record_head, size_of, kind_of, least_size, has_second, holds_record, frame_of, holds_request}
 
 pub record-heads : (b : List ℕ) → holds_record b ≡ true → record_head ≤ length b
 unfolding holds_record
@@ -28,41 +28,41 @@ unfolding holds_record
 record-fits b e = let t = simp and-eq-true_iff at e in leb-true _ _ t.1
 
 -- what holds of the size and the kind of a record that the input holds
-abbrev OfRecord : (ℕ → ℕ → Type 0) → Frame → Type 0
-OfRecord P (Record size kind) = P size kind
-OfRecord P Cut = Unit {0}
+abbrev OfRecord : (ℕ → ℕ → Type 0) → Option Frame → Type 0
+OfRecord P (Some x) = P x.size x.kind
+OfRecord P None = Unit {0}
 
 pub of-record : (P : ℕ → ℕ → Type 0) (b : List ℕ) (size kind : ℕ) → (holds_record b ≡ true → P (size_of b) (kind_of b))
-    → frame_of b ≡ Record size kind → P size kind
+    → frame_of b ≡ framed size kind → P size kind
 unfolding frame_of
 of-record P b size kind f e = subst (OfRecord P) e
     (cond_cases (OfRecord P) (holds_record b && leb (least_size (kind_of b)) (size_of b))
     (λ t. let h = simp and-eq-true_iff at t in f h.0)
     (λ _. tt))
 
-pub frame-fits : (b : List ℕ) (size kind : ℕ) → frame_of b ≡ Record size kind → size ≤ length b
+pub frame-fits : (b : List ℕ) (size kind : ℕ) → frame_of b ≡ framed size kind → size ≤ length b
 frame-fits b size kind = of-record (λ s k. s ≤ length b) b size kind (record-fits b)
 
-pub frame-some : (b : List ℕ) (size kind : ℕ) → frame_of b ≡ Record size kind → 1 ≤ size
+pub frame-some : (b : List ℕ) (size kind : ℕ) → frame_of b ≡ framed size kind → 1 ≤ size
 frame-some b size kind = of-record (λ s k. 1 ≤ s) b size kind (λ h. omega arith)
 
-pub frame-held : (b : List ℕ) (size kind : ℕ) → frame_of b ≡ Record size kind → holds_record b ≡ true
+pub frame-held : (b : List ℕ) (size kind : ℕ) → frame_of b ≡ framed size kind → holds_record b ≡ true
 frame-held b size kind = of-record (λ s k. holds_record b ≡ true) b size kind (λ h. h)
 
 -- a request of one record, and one of two
-pub one-held : (b : List ℕ) (size kind : ℕ) → has_second kind ≡ false → frame_of b ≡ Record size kind → holds_request b ≡ true
+pub one-held : (b : List ℕ) (size kind : ℕ) → has_second kind ≡ false → frame_of b ≡ framed size kind → holds_request b ≡ true
 unfolding holds_request
 one-held b size kind =
     λ no e. of-record (λ s k. has_second k ≡ false → holds_request b ≡ true) b size kind (λ h s. rw (h, s) refl) e no
 
-pub two-held : (b : List ℕ) (size kind : ℕ) → holds_record (drop size b) ≡ true → frame_of b ≡ Record size kind → holds_request b ≡ true
+pub two-held : (b : List ℕ) (size kind : ℕ) → holds_record (drop size b) ≡ true → frame_of b ≡ framed size kind → holds_request b ≡ true
 unfolding holds_request
 two-held b size kind =
     λ second e. of-record (λ s k. holds_record (drop s b) ≡ true → holds_request b ≡ true) b size kind
     (λ h t. rw (h, t) (or-true (not (has_second (kind_of b))))) e second
 
 -- a record after the first bytes of b
-pub second_fits : (b : List ℕ) (first size kind : ℕ) → first ≤ length b → frame_of (drop first b) ≡ Record size kind → first + size ≤ length b
+pub second_fits : (b : List ℕ) (first size kind : ℕ) → first ≤ length b → frame_of (drop first b) ≡ framed size kind → first + size ≤ length b
 second_fits b first size kind h e =
     let k = frame-fits _ _ _ e in
     let l = rw (length-drop first b) at k in

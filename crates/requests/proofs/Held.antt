@@ -15,12 +15,12 @@ use Rattle.checkpoint.proofs.Fields.{read-well-formed}
 use Rattle.records.specs.declared.Announcement.{Announcement}
 use Rattle.actions.specs.Perform.{advance, perform}
 use Rattle.node.specs.declared.Node.{Node}
-use Rattle.node.specs.declared.StartAnswer.{StartAnswer}
-use Rattle.node.specs.declared.StartAnswer.TheVariants as S
-use Rattle.node.specs.declared.DeliverAnswer.{DeliverAnswer}
-use Rattle.node.specs.declared.DeliverAnswer.TheVariants as D
-use Rattle.node.specs.declared.QueryAnswer.{QueryAnswer}
-use Rattle.node.specs.declared.QueryAnswer.TheVariants as Q
+use Rattle.node.specs.StartAnswer.{StartAnswer}
+use Rattle.node.specs.StartAnswer as S
+use Rattle.node.specs.DeliverAnswer.{DeliverAnswer}
+use Rattle.node.specs.DeliverAnswer as D
+use Rattle.node.specs.QueryAnswer.{QueryAnswer}
+use Rattle.node.specs.QueryAnswer as Q
 use Rattle.node.specs.Start.{start_of}
 use Rattle.node.specs.Deliver.{deliver_of}
 use Rattle.node.specs.Query.{query_of}

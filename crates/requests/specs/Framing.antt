@@ -1,13 +1,12 @@
 -- "Records are framed by their length and placed by their kind (1 to 9, 16, 18, 19, 20)."; "node-run places 21 as a query";
 -- kind 26: "node-run places it like 16" (02, A7)
-use Rattle.std.specs.Prelude.{ℕ, ◌+◌, List, Bool, cond, not, ◌&&◌, ◌||◌, eqb, leb, length, drop}
+use Rattle.std.specs.Prelude.{ℕ, ◌+◌, List, Bool, cond, not, ◌&&◌, ◌||◌, eqb, leb, length, drop, Option, Some, None}
 use Rattle.binary.specs.Number.{field}
 use Rattle.state.specs.Kinds.{kind_propose, kind_end}
 use Rattle.records.specs.Layout.{announcement_size, kind_sheet, sheet_head, kind_start, start_length}
 use Rattle.records.specs.Layout.{kind_query, query_length, kind_door_query, door_query_length}
 use Rattle.checkpoint.specs.Layout.{kind_checkpoint, checkpoint_size, kind_earlier, earlier_size}
 use Rattle.requests.specs.declared.Frame.{Frame}
-use Rattle.requests.specs.declared.Frame.TheVariants.{Record, Cut}
 
 -- "A record is a 2-byte length (of what follows it), a 2-byte kind, a body."
 abbrev pub record_head : ℕ
@@ -50,9 +49,13 @@ least_size kind =
 unfoldable pub holds_record : List ℕ → Bool
 holds_record b = leb record_head (length b) && leb (size_of b) (length b)
 
+-- a record of that many bytes, and of that kind
+abbrev pub framed : ℕ → ℕ → Option Frame
+framed size kind = Some (record { size = size; kind = kind })
+
 -- the record at the front of the input b
-unfoldable pub frame_of : List ℕ → Frame
-frame_of b = cond (holds_record b && leb (least_size (kind_of b)) (size_of b)) (Record (size_of b) (kind_of b)) Cut
+unfoldable pub frame_of : List ℕ → Option Frame
+frame_of b = cond (holds_record b && leb (least_size (kind_of b)) (size_of b)) (framed (size_of b) (kind_of b)) None
 
 -- "start and checkpoint (one request), then announcement and sheet (one), or query (one)"
 abbrev pub has_second : ℕ → Bool

@@ -1,20 +1,19 @@
 -- "The program node-run reads records from standard input: start and checkpoint (one request), then announcement and sheet (one), or query (one)."
-use Rattle.std.specs.Prelude.{ℕ, ◌+◌, List, Bool, true, false, cond, eqb, take, drop}
+use Rattle.std.specs.Prelude.{ℕ, ◌+◌, List, Bool, true, false, cond, eqb, take, drop, Option, Some, None}
 use Rattle.state.specs.Time.{cycle, is_same_cycle}
 use Rattle.records.specs.Layout.{kind_start}
 use Rattle.node.specs.declared.Node.{Node}
-use Rattle.node.specs.declared.StartReply.{StartReply}
-use Rattle.node.specs.declared.StartAnswer.{StartAnswer}
-use Rattle.node.specs.declared.StartAnswer.TheVariants as S
-use Rattle.node.specs.declared.DeliverAnswer.{DeliverAnswer}
-use Rattle.node.specs.declared.DeliverAnswer.TheVariants as D
-use Rattle.node.specs.declared.QueryAnswer.{QueryAnswer}
-use Rattle.node.specs.declared.QueryAnswer.TheVariants as Q
+use Rattle.node.specs.Reply.{StartReply}
+use Rattle.node.specs.StartAnswer.{StartAnswer}
+use Rattle.node.specs.StartAnswer as S
+use Rattle.node.specs.DeliverAnswer.{DeliverAnswer}
+use Rattle.node.specs.DeliverAnswer as D
+use Rattle.node.specs.QueryAnswer.{QueryAnswer}
+use Rattle.node.specs.QueryAnswer as Q
 use Rattle.node.specs.Start.{start_of}
 use Rattle.node.specs.Deliver.{deliver_of}
 use Rattle.node.specs.Query.{query_of}
 use Rattle.requests.specs.declared.Frame.{Frame}
-use Rattle.requests.specs.declared.Frame.TheVariants.{Record, Cut}
 use Rattle.requests.specs.declared.Answer.{Answer}
 use Rattle.requests.specs.declared.Step.{Step}
 use Rattle.requests.specs.Framing.{is_announcement, is_query, is_checkpoint_kind, is_sheet_kind, frame_of}
@@ -48,9 +47,9 @@ abbrev pub after_start : Node → ℕ → StartReply → Step
 after_start n used r = start_step n used r.node r.answer
 
 -- the second record, in the input b without the first, and what comes of it: "a request without its second record, counts as cut"
-abbrev pub with_second : Node → (ℕ → Bool) → (ℕ → List ℕ → Step) → List ℕ → Frame → Step
-with_second n fits f b Cut = cuts n
-with_second n fits f b (Record size kind) = cond (fits kind) (f size (take size b)) (cuts n)
+abbrev pub with_second : Node → (ℕ → Bool) → (ℕ → List ℕ → Step) → List ℕ → Option Frame → Step
+with_second n fits f b None = cuts n
+with_second n fits f b (Some x) = cond (fits x.kind) (f x.size (take x.size b)) (cuts n)
 
 -- a start record, the first bytes of b, and a checkpoint
 unfoldable pub step_start : Node → ℕ → List ℕ → Step
@@ -72,13 +71,13 @@ step_deliver n first b =
 unfoldable pub step_query : Node → ℕ → List ℕ → Step
 step_query n size b = let r = query_of n (take size b) in answers r.node (query_answer r.answer) size
 
-abbrev pub placed : Node → List ℕ → Frame → Step
-placed n b Cut = cuts n
-placed n b (Record size kind) =
-    cond (eqb kind kind_start) (step_start n size b)
+abbrev pub placed : Node → List ℕ → Option Frame → Step
+placed n b None = cuts n
+placed n b (Some x) =
+    cond (eqb x.kind kind_start) (step_start n x.size b)
     (cond (is_none n) (cuts n)
-    (cond (is_query kind) (step_query n size b)
-    (cond (is_announcement kind) (step_deliver n size b) (cuts n))))
+    (cond (is_query x.kind) (step_query n x.size b)
+    (cond (is_announcement x.kind) (step_deliver n x.size b) (cuts n))))
 
 -- the request at the front of the input b, at node n
 unfoldable pub step_of : Node → List ℕ → Step

@@ -18,7 +18,7 @@ const RECORD_HEAD: usize = 4;
 pub fn is_announcement(kind: u16) -> bool
     ensures { result ≡ is_announcement kind }
 {
-    (PROPOSE <= kind) & (kind <= END)
+    (PROPOSE..=END).contains(&kind)
 }
 
 // Whether a record of this kind is a query, at door 0 or at a door that it names.
@@ -36,6 +36,7 @@ pub fn is_checkpoint_kind(kind: u16) -> bool
 }
 
 // The fewest bytes of a record of this kind.
+#[tactic(auto, unfolding(crate::specs::Framing::least_size))]
 fn least_size(kind: u16) -> usize
     ensures { result ≡ least_size kind }
 {
@@ -62,28 +63,27 @@ fn size_of(b: &[u8]) -> usize
 }
 
 // Whether the bytes hold all of the record at their front.
+#[tactic(auto, unfolding(crate::specs::Framing::holds_record))]
 fn holds_record(b: &[u8]) -> bool
     ensures { result ≡ holds_record b.now }
 {
-    if b.len() < RECORD_HEAD {
-        return false;
-    }
-    size_of(b) <= b.len()
+    RECORD_HEAD <= b.len() && size_of(b) <= b.len()
 }
 
-// Frames the record at the front of the input.
-pub fn frame(b: &[u8]) -> Frame
+// Frames the record at the front of the input: none where it is too short for its kind, or the input ends within it.
+#[tactic(auto, unfolding(crate::specs::Framing::frame_of))]
+pub fn frame(b: &[u8]) -> Option<Frame>
     ensures { result ≡ frame_of b.now }
 {
-    if holds_record(b) {
-        let size = size_of(b);
-        let kind = u16_at(b, 2);
-        if size < least_size(kind) {
-            return Frame::Cut;
-        }
-        return Frame::Record { size, kind };
+    if !holds_record(b) {
+        return None;
     }
-    Frame::Cut
+    let size = size_of(b);
+    let kind = u16_at(b, 2);
+    if size < least_size(kind) {
+        return None;
+    }
+    Some(Frame { size, kind })
 }
 
 // Whether a request whose first record has this kind has a second one.
@@ -94,16 +94,12 @@ fn has_second(kind: u16) -> bool
 }
 
 // Whether the bytes hold all records of the request at their front, so that more input changes nothing in its answer.
+#[tactic(auto, unfolding(crate::specs::Framing::holds_request))]
 pub fn holds_request(b: &[u8]) -> bool
     ensures { result ≡ holds_request b.now }
 {
-    if holds_record(b) {
-        let size = size_of(b);
-        let kind = u16_at(b, 2);
-        if has_second(kind) {
-            return holds_record(&b[size..]);
-        }
-        return true;
+    if !holds_record(b) {
+        return false;
     }
-    false
+    !has_second(u16_at(b, 2)) || holds_record(&b[size_of(b)..])
 }

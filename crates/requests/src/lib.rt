@@ -13,15 +13,14 @@ pub use lines::{LINE_ROOM, put_line};
 pub use steps::take_step;
 pub use windows::shift;
 
-// The record at the front of the input.
+// The record at the front of the input: its bytes, the length field with them, and its kind.
 #[derive(Clone, Copy)]
-pub enum Frame {
-    // Its bytes, the length field with them, and its kind.
-    Record { size: usize, kind: u16 },
-    // Too short for its kind, or the input ends within it.
-    Cut,
+pub struct Frame {
+    pub size: usize,
+    pub kind: u16,
 }
 
+// No holds the number that is printed.
 #[derive(Clone, Copy)]
 pub enum Answer {
     Started,

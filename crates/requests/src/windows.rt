@@ -7,10 +7,5 @@ pub fn shift(buffer: &mut [u8], from: usize, to: usize)
     requires { (from ≤ to) × (to ≤ length buffer.old) }
     ensures { buffer.new ≡ overwrite (take (to - from) (drop from buffer.old)) buffer.old }
 {
-    let count = to - from;
-    let mut i: usize = 0;
-    while i < count {
-        buffer[i] = buffer[from + i];
-        i += 1;
-    }
+    buffer.copy_within(from..to, 0);
 }

@@ -16,15 +16,16 @@ use Rattle.decimal.specs.Decimal.{is_digit, number_from}
 use Rattle.decimal.specs.Code.{digits_in}
 use Rattle.decimal.proofs.Scanned.{Stops, digits-read, digits-front}
 use Rattle.calendar.specs.Text.{day_in}
+use Rattle.state.specs.Time.{day}
 use Rattle.calendar.proofs.Texts.{text-written-back, day-length}
 use Rattle.roster.specs.Csv.{quote, comma, carriage_return, begins, char, is_text_data}
 use Rattle.roster.specs.Fields.{most_login_digits, is_login_number, login_in, is_hex_digit, is_capital, is_small, rights_digits, rights_in, hex_from}
-use Rattle.roster.specs.Code.{separator, separated, login_at, date_size, value_at}
+use Rattle.roster.specs.Code.{separator, separated, login_at, date_size, value_at, field_by, line_in}
 use Rattle.roster.proofs.Quoting.{Ends, Behind}
 use Rattle.roster.proofs.WrittenLines.{char-written}
 use Rattle.roster.proofs.Values.{login-number, capital-range, small-range}
 use Rattle.roster.proofs.FieldTexts.{IsLogin, login-to, rights-range, digit-plain, day-plain}
-use Rattle.roster.proofs.Separated.{Finds, Separates, separated-to}
+use Rattle.roster.proofs.Separated.{Finds, Separates, separated-to, separated-found}
 
 -- ---- logins
 
@@ -48,6 +49,7 @@ stops (c ∷ cs) e = go (is_digit c) refl
     go false d = d
 
 login-found : (t : List ℕ) (p : ℕ × List ℕ) → login_at t ≡ some p → (c : List ℕ) × (t ≡ c ++ p.1) × (login_in c ≡ some p.0)
+unfolding login_at
 login-found t p e =
     let d : ℕ × List ℕ = digits_in most_login_digits 0 t in
     let k = chosen (is_login_number d.0) d p e in
@@ -59,6 +61,7 @@ login-found t p e =
     (f.front, f.text_of ∙ ap (λ (l : List ℕ). f.front ++ l) second, login-of f.front p.0 is-login)
 
 login-front : (c rest : List ℕ) (x : ℕ) → login_in c ≡ some x → Ends rest → login_at (c ++ rest) ≡ some (x, rest)
+unfolding login_at
 login-front c rest x e h =
     let l = login-to c x e in
     rw (digits-front most_login_digits 0 c rest l.digits l.few (stops rest h), l.value, l.in-range)
@@ -127,6 +130,30 @@ separates true (c ∷ cs) rest e =
     begins-behind carriage_return refl refl (c ∷ cs) a.0 a.1
 separates false t rest e = begins-behind comma refl refl t rest e
 
+-- ---- each field is what the code finds, and so is the line
+
+login_found : (t : List ℕ) → separated login_in (separator false) t ≡ field_by login_at false t
+login_found t = sym (separated-found login-finds (separates false) t)
+
+end_found : (t : List ℕ) → separated day_in (separator false) t ≡ field_by (value_at date_size day_in) false t
+end_found t = sym (separated-found end-finds (separates false) t)
+
+rights_found : (t : List ℕ) → separated rights_in (separator true) t ≡ field_by (value_at rights_digits rights_in) true t
+rights_found t = sym (separated-found rights-finds (separates true) t)
+
+pub line_by : (t : List ℕ) → line_in t
+    ≡ bind (field_by login_at false t) (λ login.
+    bind (field_by (value_at date_size day_in) false login.1) (λ end.
+    bind (field_by (value_at rights_digits rights_in) true end.1) (λ rights.
+    some (record { login = login.0; end = day end.0; rights = rights.0 }, rights.1))))
+unfolding line_in
+line_by t = λ i.
+    bind (login_found t i) (λ login.
+    bind (end_found login.1 i) (λ end.
+    bind (rights_found end.1 i) (λ rights.
+    some (record { login = login.0; end = day end.0; rights = rights.0 }, rights.1))))
+
 -- rights that are read fit in 16 bits
-pub rights-below : (t : List ℕ) (p : ℕ × List ℕ) → separated rights_in (separator true) t ≡ some p → p.0 < 2 ^ 16
-rights-below t p e = let s = separated-to rights_in (separator true) t p e in (rights-range s.content p.0 s.valued).1
+pub rights_below : (t : List ℕ) (x : ℕ) (rest : List ℕ) → some (x, rest) ≡ field_by (value_at rights_digits rights_in) true t → x < 2 ^ 16
+rights_below t x rest e =
+    let s = separated-to rights_in (separator true) t (x, rest) (rights_found t ∙ sym e) in (rights-range s.content x s.valued).1

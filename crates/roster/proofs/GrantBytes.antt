@@ -43,36 +43,28 @@ module _ (day : Day) where
   unfolding bytes_of grants_of
   first-grant c r rs = refl
 
-  -- the grants of the rows before row i are written to the front of d₀, up to index `at`, which gives d, and that of row i is in cycle `next`
-  pub record GrantsWritten (c : Cycle) (rows : List Login) (d₀ : List ℕ) (i at : ℕ) (next : Cycle) (d : List ℕ) : Type 0 where
+  -- the grants of the rows before row i are written to the front of d₀, which gives d, and that of row i is in cycle `next`
+  pub record GrantsWritten (c : Cycle) (rows : List Login) (d₀ : List ℕ) (i : ℕ) (next : Cycle) (d : List ℕ) : Type 0 where
     pub same_length : length d ≡ length d₀
-    pub place : at ≡ announcement_size * i
     pub done : List ℕ
-    pub wrote : Wrote d₀ 0 at done d
+    pub wrote : Wrote d₀ 0 (announcement_size * i) done d
     pub rest : done ++ bytes_of (grants_of next day (drop i rows)) ≡ bytes_of (grants_of c day rows)
 
-  pub written_none : (c : Cycle) (rows : List Login) (d : List ℕ) → GrantsWritten c rows d 0 0 c d
-  written_none c rows d = record {
-    same_length = refl;
-    place = refl;
-    done = [];
-    wrote = record { is = sym (splice-none d 0); ends = refl };
-    rest = refl;
-  }
+  pub written_none : (c : Cycle) (rows : List Login) (d : List ℕ) → GrantsWritten c rows d 0 c d
+  written_none c rows d = record { same_length = refl; done = []; wrote = record { is = sym (splice-none d 0); ends = refl }; rest = refl }
 
-  module _ (c : Cycle) (rows : List Login) (d₀ : List ℕ) (i at : ℕ) (next : Cycle) (d : List ℕ) (h : GrantsWritten c rows d₀ i at next d) where
-    pub written_one : (x : Login) → i < length rows → announcement_size * length rows ≤ length d₀
-        → (d' : List ℕ) → length d' ≡ length d → d' ≡ splice d at (announcement_bytes (grant_of next day (get_or rows i x)))
-        → GrantsWritten c rows d₀ (i + 1) (at + announcement_size) (next_cycle next) d'
+  module _ (c : Cycle) (rows : List Login) (d₀ : List ℕ) (i : ℕ) (next : Cycle) (d : List ℕ) (h : GrantsWritten c rows d₀ i next d) where
+    pub written_one : (x : Login) → i < length rows → announcement_size * length rows ≤ length d₀ → (d' : List ℕ) → length d' ≡ length d
+        → d' ≡ splice d (announcement_size * i) (announcement_bytes (grant_of next day (get_or rows i x)))
+        → GrantsWritten c rows d₀ (i + 1) (next_cycle next) d'
     written_one x k room d' same w =
         let row = get_or rows i x in
         let from_row : drop i rows ≡ row ∷ drop (i + 1) rows = drop-cons rows i x k ∙ rw add-one in
         let size = grant-size next day row in
         record {
           same_length = same ∙ h.same_length;
-          place = omega (arith, h.place);
           done = h.done ++ announcement_bytes (grant_of next day row);
-          wrote = put_next d₀ d d' h.done _ 0 at _ h.wrote (omega (arith, h.place)) (ap (λ (n : ℕ). at + n) (sym size)) w;
+          wrote = put_next d₀ d d' h.done _ 0 _ _ h.wrote (omega arith) (omega (arith, size)) w;
           rest =
               append_assoc h.done _ _
               ∙ ap (λ (l : List ℕ). h.done ++ l) (sym (first-grant next row (drop (i + 1) rows)))
@@ -87,3 +79,6 @@ module _ (day : Day) where
         let all_done : h.done ≡ bytes_of (grants_of c day rows) =
         sym (append-nil h.done) ∙ ap (λ (l : List ℕ). h.done ++ l) (sym none_left) ∙ h.rest in
         h.wrote.is ∙ ap (splice d₀ 0) all_done ∙ splice-overwrite d₀ _
+
+-- the loop over the rows, up to its end
+pub ruleset grants_written = (written_none, written_one)

@@ -1,4 +1,5 @@
 -- Laws of rosters.
+pub mod Chains
 pub mod Quoting
 pub mod WrittenLines
 pub mod Files

@@ -1,27 +1,27 @@
 -- What an export answers, in each of its cases.
 use Prim.Native.Nat.{ℕ, ◌≤◌, ◌<◌}
-use native.Mathlib.Nat.{min-le_right}
 use native.Mathlib.Omega.{arith}
-use mathlib.Core.Path.{◌≡◌, refl, sym, ap, ◌∙◌}
+use mathlib.Core.Path.{◌≡◌, refl}
 use mathlib.Core.List.{List}
 use mathlib.Core.Option.{none, bind}
-use lib.ListN.{length, take, length-take}
+use lib.ListN.{length}
 use borrow.Author.Tests.{le-leb, lt-leb}
+use Rattle.refusals.specs.declared.Refusal.TheVariants.{BadRoster}
+use Rattle.decimal.specs.Decimal.{decimal}
+use Rattle.decimal.proofs.Stored.{length-below}
 use Rattle.calendar.specs.Text.{last_day}
 use Rattle.state.specs.declared.Login.{Login}
 use Rattle.records.specs.declared.Announcement.{Announcement}
 use Rattle.records.specs.declared.Action.{Action}
 use Rattle.records.specs.declared.Action.TheVariants.{Propose, Cancel, Presents, Certify, Minima, Remove, Rejoin, Grant, End}
-use Rattle.records.specs.declared.AnnouncementRead.TheVariants.{Read, Malformed}
+use Rattle.std.specs.Prelude.{Some, None}
 use Rattle.records.specs.Announcement.{read_announcement}
 use Rattle.roster.specs.Roster.{line_of}
 use Rattle.roster.specs.Calls.{refused, give, granted, exported, export_of}
 
--- as many bytes as are taken, there are
-pub taken-fits : (n : ℕ) (bytes line : List ℕ) → take n bytes ≡ line → n ≡ length line → n ≤ length bytes
-taken-fits n bytes line e s =
-    let same = s ∙ ap length (sym e) ∙ length-take n bytes in
-    omega (arith, min-le_right n (length bytes))
+-- a login has at most ten digits
+pub login_size : (x : ℕ) → x < 4294967296 → length (decimal x) ≤ 10
+login_size x h = length-below 10 x (omega arith) (omega arith) (omega arith)
 
 no_row : (x : Action) → ((r : Login) → x ≡ Grant r → ⊥) → granted x ≡ none
 no_row (Propose x) n = refl
@@ -35,20 +35,23 @@ no_row (Grant r) n = absurd (n r refl)
 no_row (End login) n = refl
 
 module _ (b out : List ℕ) where
-  pub not-read : read_announcement b ≡ Malformed → export_of b out ≡ refused 24 out
+  pub not_read : read_announcement b ≡ None → export_of b out ≡ refused BadRoster out
   unfolding export_of exported bind
-  not-read e = rw e
+  not_read e = rw e
 
-  module _ (a : Announcement) (e : read_announcement b ≡ Read a) where
-    pub not-granted : ((r : Login) → a.action ≡ Grant r → ⊥) → export_of b out ≡ refused 24 out
+  module _ (a : Announcement) (e : read_announcement b ≡ Some a) where
+    pub not_granted : ((r : Login) → a.action ≡ Grant r → ⊥) → export_of b out ≡ refused BadRoster out
     unfolding export_of exported bind
-    not-granted n = rw (e, no_row a.action n)
+    not_granted n = rw (e, no_row a.action n)
 
     module _ (r : Login) (g : a.action ≡ Grant r) where
-      pub too-late : last_day < r.end.0 → export_of b out ≡ refused 24 out
+      pub too_late : last_day < r.end.0 → export_of b out ≡ refused BadRoster out
       unfolding export_of exported bind
-      too-late h = rw (e, g, lt-leb r.end.0 last_day h)
+      too_late h = rw (e, g, lt-leb r.end.0 last_day h)
 
-      pub in-time : r.end.0 ≤ last_day → export_of b out ≡ give (length (line_of r)) (line_of r) out
+      pub in_time : r.end.0 ≤ last_day → export_of b out ≡ give (length (line_of r)) (line_of r) out
       unfolding export_of exported bind
-      in-time h = rw (e, g, le-leb r.end.0 last_day h)
+      in_time h = rw (e, g, le-leb r.end.0 last_day h)
+
+-- what an export answers, in each case
+pub ruleset export_cases = (not_read, not_granted, too_late, in_time)

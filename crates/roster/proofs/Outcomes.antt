@@ -17,8 +17,8 @@ use Rattle.state.specs.Time.{last_cycle, cycles_since}
 use Rattle.records.specs.declared.Announcement.{Announcement}
 use Rattle.records.specs.declared.Action.{Action}
 use Rattle.records.specs.declared.Action.TheVariants.{Propose, Cancel, Presents, Certify, Minima, Remove, Rejoin, Grant, End}
-use Rattle.records.specs.declared.AnnouncementRead.{AnnouncementRead}
-use Rattle.records.specs.declared.AnnouncementRead.TheVariants.{Read, Malformed}
+use Rattle.std.specs.declared.option.Option as Rust
+use Rattle.std.specs.Prelude.{Some, None}
 use Rattle.records.specs.Announcement.{read_announcement}
 use Rattle.roster.specs.Csv.{lines_in}
 use Rattle.roster.specs.Roster.{rows_in, roster_in, line_of}
@@ -77,15 +77,15 @@ module _ (b out : List ℕ) where
   Exports = ExportAnswering b out
 
   -- what is read is granted
-  same-grant : (a : Announcement) (r : Login) → read_announcement b ≡ Read a → a.action ≡ Grant r → granted_by (read_announcement b) ≡ some r
+  same-grant : (a : Announcement) (r : Login) → read_announcement b ≡ Some a → a.action ≡ Grant r → granted_by (read_announcement b) ≡ some r
   same-grant a r e g = rw (e, g)
 
-  told : (r : Login) (x : AnnouncementRead) → read_announcement b ≡ x → granted_by x ≡ some r → Exports (export_of b out)
+  told : (r : Login) (x : Rust.Option Announcement) → read_announcement b ≡ x → granted_by x ≡ some r → Exports (export_of b out)
   unfolding export_of exported bind
-  told r Malformed e g = clash (cc)
-  told r (Read a) e g =
+  told r None e g = clash (cc)
+  told r (Some a) e g =
       let q = granting a.action r g in
-      let late : last_day < r.end.0 → (x : Announcement) (y : Login) → read_announcement b ≡ Read x → x.action ≡ Grant y → last_day < y.end.0 =
+      let late : last_day < r.end.0 → (x : Announcement) (y : Login) → read_announcement b ≡ Some x → x.action ≡ Grant y → last_day < y.end.0 =
       λ l x y p k. (let z : r ≡ y = some-injective r y (sym (same-grant a r e q) ∙ same-grant x y p k) in rw (← z) l) in
       rw (same-grant a r e q) (cond_cases (λ (o : Option (List ℕ)). Exports (give_line o out)) (leb r.end.0 last_day)
       (λ t. give-cases (length (line_of r)) (line_of r) out Exports (λ k. C.given a r e q (leb-true _ _ t) k refl)

@@ -9,7 +9,7 @@ use lib.ListN.{drop}
 use Rattle.lists.proofs.Options.{same-options}
 use Rattle.lists.specs.Fold.{all}
 use Rattle.roster.specs.Csv.{quote, begins, char, is_text_data, plain_in, quoted_in, field_in}
-use Rattle.roster.specs.Code.{followed, separated, closed}
+use Rattle.roster.specs.Code.{followed, separated, closed, opened}
 use Rattle.roster.proofs.Quoting.{Ends, Behind, plain-split, plain-front, quoted-front, quoted-split}
 use Rattle.roster.proofs.WrittenLines.{char-written}
 
@@ -32,10 +32,6 @@ followed-to x o p e =
     let a = (bind-eq-some_iff o _).0 e in
     let q = some-injective _ _ a.2 in
     (a.1 ∙ ap (λ (y : Found). some y.1) q, ap (λ (y : Found). y.0) q)
-
-followed_of : (p : Found) (o : Option (List ℕ)) → o ≡ some p.1 → followed p.0 o ≡ some p
-unfolding bind
-followed_of p o e = rw e
 
 module _ (value : List ℕ → Option ℕ) (after : List ℕ → Option (List ℕ)) where
   -- a field at the front of a text, with its value and its separator
@@ -119,10 +115,6 @@ module _ {value : List ℕ → Option ℕ} {find : List ℕ → Option Found} {a
       let split : drop 1 t ≡ g.0 ++ (quote ∷ s.rest) = g.1 ∙ ap (λ (l : List ℕ). g.0 ++ l) close in
       let read : field_in t ≡ some (g.0, s.rest) = rw b (ap quoted_in split ∙ front) in
       record { content = g.0; rest = s.rest; read = read; valued = g.2; ends = s.ends }
-
--- where the value of a field begins
-abbrev pub opened : List ℕ → List ℕ
-opened t = cond (begins quote t) (drop 1 t) t
 
 -- The field with its separator is what the code finds.
 pub separated-found : {value : List ℕ → Option ℕ} {find : List ℕ → Option Found} {after : List ℕ → Option (List ℕ)} → Finds value find

@@ -1,6 +1,9 @@
 -- The two calls: what each answers, and what its output slice then holds. "24 comes before 25."
-use Rattle.std.specs.Prelude.{ℕ, List, [], ◌∷◌, ◌++◌, cond, leb, length}
+use Rattle.std.specs.Prelude.{ℕ, List, [], ◌∷◌, ◌++◌, cond, leb, length, Result, Ok, Err, Some, None}
+use Rattle.std.specs.declared.option.Option as Rust
 use Rattle.std.proofs.Math.Option.{Option, none, some, bind}
+use Rattle.refusals.specs.declared.Refusal.{Refusal}
+use Rattle.refusals.specs.declared.Refusal.TheVariants.{BadRoster, NoRosterRoom}
 use Rattle.binary.specs.Number.{overwrite}
 use Rattle.calendar.specs.Text.{last_day}
 use Rattle.state.specs.declared.Cycle.{Cycle}
@@ -10,23 +13,20 @@ use Rattle.state.specs.Time.{cycles_since, last_cycle, next_cycle}
 use Rattle.records.specs.declared.Announcement.{Announcement}
 use Rattle.records.specs.declared.Action.{Action}
 use Rattle.records.specs.declared.Action.TheVariants.{Propose, Cancel, Presents, Certify, Minima, Remove, Rejoin, Grant, End}
-use Rattle.records.specs.declared.AnnouncementRead.{AnnouncementRead}
-use Rattle.records.specs.declared.AnnouncementRead.TheVariants.{Read, Malformed}
 use Rattle.records.specs.Announcement.{read_announcement, announcement_bytes}
-use Rattle.roster.specs.declared.RosterAnswer.{RosterAnswer}
-use Rattle.roster.specs.declared.RosterAnswer.TheVariants.{Given, Refused}
 use Rattle.roster.specs.Roster.{roster_in, line_of}
 
+-- the number of announcements or the length of a line is given, or the call is refused: 24 is BadRoster, and 25 NoRosterRoom
 pub record Outcome : Type 0 where
-  pub answer : RosterAnswer
+  pub answer : Result ℕ Refusal
   pub slice : List ℕ
 
-abbrev pub refused : ℕ → List ℕ → Outcome
-refused k out = record { answer = Refused k; slice = out }
+abbrev pub refused : Refusal → List ℕ → Outcome
+refused r out = record { answer = Err r; slice = out }
 
 -- a number is given, and bytes are written; "25, output slice shorter than" they are; "a longer one keeps its tail"
 unfoldable pub give : ℕ → List ℕ → List ℕ → Outcome
-give n bytes out = cond (leb (length bytes) (length out)) (record { answer = Given n; slice = overwrite bytes out }) (refused 25 out)
+give n bytes out = cond (leb (length bytes) (length out)) (record { answer = Ok n; slice = overwrite bytes out }) (refused NoRosterRoom out)
 
 -- ---- import
 
@@ -49,7 +49,7 @@ imported text c d = bind (roster_in text) (λ rs. cond (leb (length rs) (cycles_
 
 -- "The node turns up to 64 lines into grant announcements .. and gives their number."
 abbrev pub give_grants : Option (List Announcement) → List ℕ → Outcome
-give_grants none out = refused 24 out
+give_grants none out = refused BadRoster out
 give_grants (some grants) out = give (length grants) (bytes_of grants) out
 
 unfoldable pub import_of : List ℕ → Cycle → Day → List ℕ → Outcome
@@ -69,9 +69,9 @@ granted (Rejoin i life) = none
 granted (Grant r) = some r
 granted (End login) = none
 
-abbrev pub granted_by : AnnouncementRead → Option Login
-granted_by Malformed = none
-granted_by (Read a) = granted a.action
+abbrev pub granted_by : Rust.Option Announcement → Option Login
+granted_by None = none
+granted_by (Some a) = granted a.action
 
 -- the line of "a well-formed grant ending by 2099-12-31", or none for "anything but" that
 unfoldable pub exported : List ℕ → Option (List ℕ)
@@ -79,7 +79,7 @@ exported b = bind (granted_by (read_announcement b)) (λ r. cond (leb r.end.0 la
 
 -- "A grant exports as one line .. and gives its length"
 abbrev pub give_line : Option (List ℕ) → List ℕ → Outcome
-give_line none out = refused 24 out
+give_line none out = refused BadRoster out
 give_line (some line) out = give (length line) line out
 
 unfoldable pub export_of : List ℕ → List ℕ → Outcome

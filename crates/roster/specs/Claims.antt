@@ -1,7 +1,8 @@
 -- What an office can rely on in its rosters.
-use Rattle.std.specs.Prelude.{◌≡◌, Bool, ℕ, ◌+◌, ◌*◌, ◌^◌, ◌≤◌, ◌<◌, length, get_or, take, drop}
+use Rattle.std.specs.Prelude.{◌≡◌, Ok, Bool, ℕ, ◌+◌, ◌*◌, ◌^◌, ◌≤◌, ◌<◌, length, get_or, take, drop, Some}
 use mathlib.Core.List.{List, [], ◌∷◌, ◌++◌, Memᴰ}
 use Rattle.std.proofs.Math.Option.{Option, none, some, bind}
+use Rattle.refusals.specs.declared.Refusal.TheVariants.{BadRoster, NoRosterRoom}
 use Rattle.binary.specs.Number.{Bytes, overwrite}
 use Rattle.calendar.specs.Text.{last_day}
 use Rattle.state.specs.declared.Cycle.{Cycle}
@@ -11,10 +12,8 @@ use Rattle.state.specs.Time.{cycle, cycles_since, last_cycle, CycleBefore}
 use Rattle.state.specs.Rows.{no_login}
 use Rattle.records.specs.declared.Announcement.{Announcement}
 use Rattle.records.specs.declared.Action.TheVariants.{Grant}
-use Rattle.records.specs.declared.AnnouncementRead.TheVariants as A
 use Rattle.records.specs.Layout.{announcement_size}
 use Rattle.records.specs.Announcement.{read_announcement, announcement_bytes}
-use Rattle.roster.specs.declared.RosterAnswer.TheVariants.{Given}
 use Rattle.roster.specs.Roster.{most_lines, more_fields, roster_in, line_of}
 use Rattle.roster.specs.Written.{Written, file_text, contents, AreLines}
 use Rattle.roster.specs.Calls.{Outcome, refused, grant_of, grants_of, bytes_of, imported, import_of, exported, export_of}
@@ -43,7 +42,7 @@ announcement_at i bytes = take announcement_size (drop (announcement_size * i) b
 -- three values of line i, on the given day.
 pub record IsGrant (rs : List Login) (c : Cycle) (d : Day) (bytes : List ℕ) (i : ℕ) : Type 0 where
   pub in-time : CycleBefore (cycle (c.0 + i)) last_cycle
-  pub read : read_announcement (announcement_at i bytes) ≡ A.Read (grant_of (cycle (c.0 + i)) d (get_or rs i no_login))
+  pub read : read_announcement (announcement_at i bytes) ≡ Some (grant_of (cycle (c.0 + i)) d (get_or rs i no_login))
 
 pub record AreGrants (rs : List Login) (c : Cycle) (d : Day) (grants : List Announcement) : Type 0 where
   pub count : length grants ≡ length rs
@@ -56,7 +55,7 @@ ImportsAreGrants = (text : List ℕ) (c : Cycle) (d : Day) → c.0 < 2 ^ 32 → 
 
 -- "An empty file has no lines.": it gives 0 announcements, for every cycle and slice.
 abbrev pub EmptyFileGivesNone : Type 0
-EmptyFileGivesNone = (c : Cycle) (d : Day) (out : List ℕ) → import_of [] c d out ≡ record { answer = Given 0; slice = out }
+EmptyFileGivesNone = (c : Cycle) (d : Day) (out : List ℕ) → import_of [] c d out ≡ record { answer = Ok 0; slice = out }
 
 -- ---- export and import
 
@@ -66,7 +65,7 @@ pub record ReadAgain (b : List ℕ) (r : Login) : Type 0 where
   pub said : roster_in (line_of r) ≡ some (r ∷ [])
 
 abbrev pub ExportsReadAgain : Type 0
-ExportsReadAgain = (b : List ℕ) (a : Announcement) (r : Login) → Bytes b → read_announcement b ≡ A.Read a → a.action ≡ Grant r → r.end.0 ≤ last_day
+ExportsReadAgain = (b : List ℕ) (a : Announcement) (r : Login) → Bytes b → read_announcement b ≡ Some a → a.action ≡ Grant r → r.end.0 ≤ last_day
     → ReadAgain b r
 
 -- "a grant so made": each announcement that import writes is exported as a line that says the same.
@@ -108,25 +107,25 @@ QuotingChangesNothing = (e f : Bool) (xs ys : List (List Written)) → AreLines 
 -- Import answers 24 where there are no grants to make, then 25 where the slice is too short, and leaves the slice as it was; else it gives the number
 -- of lines, and the grants stand in front of the slice's tail.
 pub data ImportAnswering (text : List ℕ) (c : Cycle) (d : Day) (out : List ℕ) (x : Outcome) : Type 0 where
-  malformed : roster_in text ≡ none → x ≡ refused 24 out → ImportAnswering text c d out x
-  out-of-cycles : (rs : List Login) → roster_in text ≡ some rs → cycles_since last_cycle c < length rs → x ≡ refused 24 out
+  malformed : roster_in text ≡ none → x ≡ refused BadRoster out → ImportAnswering text c d out x
+  out-of-cycles : (rs : List Login) → roster_in text ≡ some rs → cycles_since last_cycle c < length rs → x ≡ refused BadRoster out
       → ImportAnswering text c d out x
   too_short : (rs : List Login) → roster_in text ≡ some rs → length rs ≤ cycles_since last_cycle c → length out < announcement_size * length rs
-      → x ≡ refused 25 out → ImportAnswering text c d out x
+      → x ≡ refused NoRosterRoom out → ImportAnswering text c d out x
   given : (rs : List Login) → roster_in text ≡ some rs → length rs ≤ cycles_since last_cycle c → announcement_size * length rs ≤ length out
-      → x ≡ record { answer = Given (length rs); slice = overwrite (bytes_of (grants_of c d rs)) out } → ImportAnswering text c d out x
+      → x ≡ record { answer = Ok (length rs); slice = overwrite (bytes_of (grants_of c d rs)) out } → ImportAnswering text c d out x
 
 abbrev pub ImportAnswers : Type 0
 ImportAnswers = (text : List ℕ) (c : Cycle) (d : Day) (out : List ℕ) → ImportAnswering text c d out (import_of text c d out)
 
 -- Export likewise.
 pub data ExportAnswering (b out : List ℕ) (x : Outcome) : Type 0 where
-  no-grant : ((a : Announcement) (r : Login) → read_announcement b ≡ A.Read a → a.action ≡ Grant r → last_day < r.end.0) → x ≡ refused 24 out
+  no-grant : ((a : Announcement) (r : Login) → read_announcement b ≡ Some a → a.action ≡ Grant r → last_day < r.end.0) → x ≡ refused BadRoster out
       → ExportAnswering b out x
-  too_short : (a : Announcement) (r : Login) → read_announcement b ≡ A.Read a → a.action ≡ Grant r → r.end.0 ≤ last_day
-      → length out < length (line_of r) → x ≡ refused 25 out → ExportAnswering b out x
-  given : (a : Announcement) (r : Login) → read_announcement b ≡ A.Read a → a.action ≡ Grant r → r.end.0 ≤ last_day
-      → length (line_of r) ≤ length out → x ≡ record { answer = Given (length (line_of r)); slice = overwrite (line_of r) out } → ExportAnswering b out x
+  too_short : (a : Announcement) (r : Login) → read_announcement b ≡ Some a → a.action ≡ Grant r → r.end.0 ≤ last_day
+      → length out < length (line_of r) → x ≡ refused NoRosterRoom out → ExportAnswering b out x
+  given : (a : Announcement) (r : Login) → read_announcement b ≡ Some a → a.action ≡ Grant r → r.end.0 ≤ last_day
+      → length (line_of r) ≤ length out → x ≡ record { answer = Ok (length (line_of r)); slice = overwrite (line_of r) out } → ExportAnswering b out x
 
 abbrev pub ExportAnswers : Type 0
 ExportAnswers = (b out : List ℕ) → ExportAnswering b out (export_of b out)

@@ -1,71 +1,55 @@
-// Quotes, commas and line ends.
-ghost use Rattle.std.specs.Prelude.{◌≡◌, cond, ◌+◌, leb, length, drop};
+// Quotes, commas and line ends: each reader takes a text from its front on, and answers the text behind what it read.
+ghost use Rattle.std.specs.Prelude.{◌≡◌, cond};
 ghost use Rattle.std.proofs.Math.Option.{some};
 ghost use Rattle.roster.specs.Csv.{quote, char, line_end};
-ghost use Rattle.roster.specs.Code.{place_found, separator};
+ghost use Rattle.roster.specs.Code.{rest_found, separator};
 
-use crate::Place;
+pub const QUOTE: u8 = b'"';
 
-pub const QUOTE: u8 = 34;
+pub const COMMA: u8 = b',';
 
-pub const COMMA: u8 = 44;
+pub const CARRIAGE_RETURN: u8 = b'\r';
 
-pub const CARRIAGE_RETURN: u8 = 13;
+pub const LINE_FEED: u8 = b'\n';
 
-pub const LINE_FEED: u8 = 10;
-
-// Whether a text has so many characters from a position on.
-pub fn has(text: &[u8], at: usize, size: usize) -> bool
-    ensures { result ≡ leb (at + size) (length text.now) }
+// The text behind a character.
+#[tactic(auto, using(crate::proofs::Found::char_other, crate::proofs::Found::char_end))]
+pub fn behind(text: &[u8], c: u8) -> Option<&[u8]>
+    ensures { rest_found result ≡ char c text.now }
 {
-    if at <= text.len() {
-        return size <= text.len() - at;
-    }
-    false
+    let (first, rest) = text.split_first()?;
+    if *first == c { Some(rest) } else { None }
 }
 
-// The place behind a character.
-fn behind(text: &[u8], at: usize, c: u8) -> Place
-    ensures { place_found text.now result ≡ char c (drop at text.now) }
+// The text behind a line's end, which the last line may lack.
+#[tactic(auto, using(crate::proofs::Chains::chains, crate::proofs::Found::not_end))]
+fn behind_line(text: &[u8]) -> Option<&[u8]>
+    ensures { rest_found result ≡ line_end text.now }
 {
-    if at < text.len() {
-        if text[at] == c {
-            return Place::At(at + 1);
-        }
-        return Place::Malformed;
+    if text.is_empty() {
+        return Some(text);
     }
-    Place::Malformed
+    behind(behind(text, CARRIAGE_RETURN)?, LINE_FEED)
 }
 
-// The place behind a line's end, which the last line may lack.
-fn behind_line(text: &[u8], at: usize) -> Place
-    ensures { place_found text.now result ≡ line_end (drop at text.now) }
-{
-    if text.len() <= at {
-        return Place::At(at);
-    }
-    let Place::At(next) = behind(text, at, CARRIAGE_RETURN) else {
-        return Place::Malformed;
-    };
-    behind(text, next, LINE_FEED)
-}
-
-// The place behind what ends a field: the end of the line, if the field is its last one, or a comma.
-pub fn behind_separator(text: &[u8], at: usize, last: bool) -> Place
-    ensures { place_found text.now result ≡ separator last (drop at text.now) }
+// The text behind what ends a field: the end of the line, if the field is its last one, or a comma.
+pub fn behind_separator(text: &[u8], last: bool) -> Option<&[u8]>
+    ensures { rest_found result ≡ separator last text.now }
 {
     if last {
-        return behind_line(text, at);
+        behind_line(text)
+    } else {
+        behind(text, COMMA)
     }
-    behind(text, at, COMMA)
 }
 
-// The place behind the quote that ends a field, if one began it.
-pub fn behind_quote(text: &[u8], at: usize, quoted: bool) -> Place
-    ensures { place_found text.now result ≡ cond quoted (char quote (drop at text.now)) (some (drop at text.now)) }
+// The text behind the quote that ends a field, if one began it.
+pub fn behind_quote(text: &[u8], quoted: bool) -> Option<&[u8]>
+    ensures { rest_found result ≡ cond quoted (char quote text.now) (some text.now) }
 {
     if quoted {
-        return behind(text, at, QUOTE);
+        behind(text, QUOTE)
+    } else {
+        Some(text)
     }
-    Place::At(at)
 }

@@ -1,15 +1,14 @@
 // The three fields of a line, each with what separates it from the text behind it. A value is read where it stands, quoted or not: none has a quote in
 // it, so nothing is copied.
-ghost use Rattle.std.specs.Prelude.{◌≡◌, ◌+◌, ◌*◌, ◌<◌, true, false, cond, length, drop};
+ghost use Rattle.std.specs.Prelude.{◌≡◌, ◌+◌, ◌*◌, ◌<◌, true, cond, drop, IfSome};
 ghost use Rattle.calendar.specs.Text.{day_in};
 ghost use Rattle.roster.specs.Csv.{quote, begins};
-ghost use Rattle.roster.specs.Fields.{login_in, rights_digits, rights_in};
-ghost use Rattle.roster.specs.Code.{field_found, login_at, date_size, value_at, hex_of, rights_or, separator, closed, separated};
+ghost use Rattle.roster.specs.Fields.{rights_digits, rights_in};
+ghost use Rattle.roster.specs.Code.{ReadsAs, value_found, field_found, login_at, date_size, value_at, hex_of, separator, closed, field_by};
 
-use crate::characters::{QUOTE, behind_quote, behind_separator, has};
-use crate::{FieldRead, Place};
-use calendar::{DATE_SIZE, DayRead, day_in};
-use decimal::{is_digit, number_at};
+use crate::characters::{QUOTE, behind, behind_quote, behind_separator};
+use calendar::{DATE_SIZE, day_in};
+use decimal::number_at;
 
 const MOST_LOGIN_DIGITS: usize = 10;
 
@@ -17,44 +16,32 @@ const MOST_LOGIN: u64 = 4294967295;
 
 const RIGHTS_DIGITS: usize = 4;
 
-// The values where they stand, without quotes.
-fn login_at(text: &[u8], at: usize) -> FieldRead
-    ensures { field_found text.now result ≡ login_at (drop at text.now) }
+// The values where they stand, without quotes, and the texts behind them.
+#[tactic(auto, unfolding(crate::specs::Code::login_at))]
+pub fn login_at(text: &[u8]) -> Option<(u32, &[u8])>
+    ensures { field_found result ≡ login_at text.now }
 {
-    let login = number_at(text, at, MOST_LOGIN_DIGITS);
-    let value = login.value;
-    if (1 <= value) & (value <= MOST_LOGIN) {
-        return FieldRead::Value(value as u32, login.end);
+    let login = number_at(text, 0, MOST_LOGIN_DIGITS);
+    if !(1..=MOST_LOGIN).contains(&login.value) {
+        return None;
     }
-    FieldRead::Malformed
+    Some((login.value as u32, &text[login.end..]))
 }
 
-fn end_at(text: &[u8], at: usize) -> FieldRead
-    ensures { field_found text.now result ≡ value_at date_size day_in (drop at text.now) }
+#[tactic(auto, using(crate::proofs::Chains::chains, crate::proofs::Values::end_short))]
+pub fn end_at(text: &[u8]) -> Option<(u32, &[u8])>
+    ensures { field_found result ≡ value_at date_size day_in text.now }
 {
-    if !has(text, at, DATE_SIZE) {
-        return FieldRead::Malformed;
-    }
-    let DayRead::Read(day) = day_in(&text[at..at + DATE_SIZE]) else {
-        return FieldRead::Malformed;
-    };
-    FieldRead::Value(day, at + DATE_SIZE)
+    let (date, rest) = text.split_at_checked(DATE_SIZE)?;
+    Some((day_in(date)?, rest))
 }
 
-// The value of a hexadecimal digit, or 16 for another character.
-fn hex_of(c: u8) -> u32
-    ensures { result ≡ hex_of c }
+// The value of a hexadecimal digit.
+fn hex_of(c: u8) -> Option<u32>
+    ensures value { value_found result ≡ hex_of c }
+    ensures bound { IfSome result (λ d. d < 16) }
 {
-    if is_digit(c) {
-        return (c - 48) as u32;
-    }
-    if (65 <= c) & (c <= 70) {
-        return (c - 55) as u32;
-    }
-    if (97 <= c) & (c <= 102) {
-        return (c - 87) as u32;
-    }
-    16
+    char::from(c).to_digit(16)
 }
 
 // The number with these four hexadecimal digits.
@@ -65,98 +52,55 @@ fn four_digits(a: u32, b: u32, c: u32, d: u32) -> u32
     16 * (16 * (16 * a + b) + c) + d
 }
 
-// The rights of four characters, or 0 where they are malformed.
-fn rights_in(text: &[u8]) -> u32
-    requires { length text.now ≡ rights_digits }
-    ensures { result ≡ rights_or 0 text.now }
+// The rights of four characters.
+#[tactic(auto, using(crate::proofs::Chains::chains, crate::proofs::Values::rights_of))]
+fn rights_in(text: &[u8; RIGHTS_DIGITS]) -> Option<u32>
+    ensures { value_found result ≡ rights_in text.now }
 {
-    let a = hex_of(text[0]);
-    let b = hex_of(text[1]);
-    let c = hex_of(text[2]);
-    let d = hex_of(text[3]);
-    if (a < 16) & ((b < 16) & ((c < 16) & (d < 16))) {
-        return four_digits(a, b, c, d);
-    }
-    0
+    let [a, b, c, d] = *text;
+    let rights = four_digits(hex_of(a)?, hex_of(b)?, hex_of(c)?, hex_of(d)?);
+    if rights == 0 { None } else { Some(rights) }
 }
 
-fn rights_at(text: &[u8], at: usize) -> FieldRead
-    ensures { field_found text.now result ≡ value_at rights_digits rights_in (drop at text.now) }
+#[tactic(auto, using(crate::proofs::Chains::chains, crate::proofs::Values::rights_short))]
+pub fn rights_at(text: &[u8]) -> Option<(u32, &[u8])>
+    ensures { field_found result ≡ value_at rights_digits rights_in text.now }
 {
-    if !has(text, at, RIGHTS_DIGITS) {
-        return FieldRead::Malformed;
-    }
-    let rights = rights_in(&text[at..at + RIGHTS_DIGITS]);
-    if rights == 0 {
-        return FieldRead::Malformed;
-    }
-    FieldRead::Value(rights, at + RIGHTS_DIGITS)
+    let (digits, rest) = text.split_first_chunk::<RIGHTS_DIGITS>()?;
+    Some((rights_in(digits)?, rest))
 }
 
-// Where the value of a field begins, and whether the field is quoted.
-#[derive(Clone, Copy)]
-struct Opening {
-    quoted: bool,
-    from: usize,
-}
-
-fn open(text: &[u8], at: usize) -> Opening
-    ensures quoted_value { result.quoted ≡ begins quote (drop at text.now) }
-    ensures text_value { drop result.from text.now ≡ cond result.quoted (drop 1 (drop at text.now)) (drop at text.now) }
+// Whether a field is quoted, and the text where its value begins.
+fn open(text: &[u8]) -> (bool, &[u8])
+    ensures quoted_value { result.0 ≡ begins quote text.now }
+    ensures text_value { result.1.now ≡ cond result.0 (drop 1 text.now) text.now }
 {
-    if at < text.len() {
-        if text[at] == QUOTE {
-            return Opening {
-                quoted: true,
-                from: at + 1,
-            };
-        }
-    }
-    Opening {
-        quoted: false,
-        from: at,
+    match behind(text, QUOTE) {
+        Some(value) => (true, value),
+        None => (false, text),
     }
 }
 
-// A value that ends at a position, where its field is closed and its separator follows: the end of the line, if the field is the last one, or a comma.
-fn ended(text: &[u8], at: usize, quoted: bool, last: bool, value: u32) -> FieldRead
-    ensures { field_found text.now result ≡ closed quoted (separator last) (value, drop at text.now) }
+// A value where its field is closed and its separator follows: the end of the line, if the field is the last one, or a comma.
+#[tactic(auto, using(crate::proofs::Chains::chains))]
+fn ended(value: u32, text: &[u8], quoted: bool, last: bool) -> Option<(u32, &[u8])>
+    ensures { field_found result ≡ closed quoted (separator last) (value, text.now) }
 {
-    let Place::At(end) = behind_quote(text, at, quoted) else {
-        return FieldRead::Malformed;
-    };
-    let Place::At(next) = behind_separator(text, end, last) else {
-        return FieldRead::Malformed;
-    };
-    FieldRead::Value(value, next)
+    let rest = behind_quote(text, quoted)?;
+    Some((value, behind_separator(rest, last)?))
 }
 
-pub fn login_field(text: &[u8], at: usize) -> FieldRead
-    ensures { field_found text.now result ≡ separated login_in (separator false) (drop at text.now) }
+// A field with its separator, where `read` reads its value.
+#[tactic(auto, using(crate::proofs::Chains::chains))]
+pub fn field<'a, F: Fn(&'a [u8]) -> Option<(u32, &'a [u8])>>(
+    text: &'a [u8],
+    read: F,
+    last: bool,
+) -> Option<(u32, &'a [u8])>
+    requires { F.IsAlwaysCallable read }
+    ensures { (find : _) → ReadsAs (F.post read) find → field_found result ≡ field_by find last text.now }
 {
-    let opening = open(text, at);
-    let FieldRead::Value(login, to) = login_at(text, opening.from) else {
-        return FieldRead::Malformed;
-    };
-    ended(text, to, opening.quoted, false, login)
-}
-
-pub fn end_field(text: &[u8], at: usize) -> FieldRead
-    ensures { field_found text.now result ≡ separated day_in (separator false) (drop at text.now) }
-{
-    let opening = open(text, at);
-    let FieldRead::Value(end, to) = end_at(text, opening.from) else {
-        return FieldRead::Malformed;
-    };
-    ended(text, to, opening.quoted, false, end)
-}
-
-pub fn rights_field(text: &[u8], at: usize) -> FieldRead
-    ensures { field_found text.now result ≡ separated rights_in (separator true) (drop at text.now) }
-{
-    let opening = open(text, at);
-    let FieldRead::Value(rights, to) = rights_at(text, opening.from) else {
-        return FieldRead::Malformed;
-    };
-    ended(text, to, opening.quoted, true, rights)
+    let (quoted, text) = open(text);
+    let (value, rest) = read(text)?;
+    ended(value, rest, quoted, last)
 }

@@ -1,5 +1,5 @@
 // Grant announcements written.
-ghost use Rattle.std.specs.Prelude.{◌≡◌, ◌++◌, ◌+◌, ◌*◌, ◌≤◌, length, take};
+ghost use Rattle.std.specs.Prelude.{◌≡◌, ◌++◌, ◌+◌, ◌*◌, ◌≤◌, length};
 ghost use Rattle.lists.specs.Table.{fill};
 ghost use Rattle.binary.specs.Number.{to_bytes, overwrite};
 ghost use Rattle.binary.specs.Splice.{splice};
@@ -7,10 +7,8 @@ ghost use Rattle.state.specs.Kinds.{kind_grant};
 ghost use Rattle.records.specs.declared.Action.TheVariants.{Grant};
 ghost use Rattle.records.specs.Layout.{announcement_length, announcement_size, arguments_size};
 ghost use Rattle.records.specs.Announcement.{argument_bytes, announcement_bytes};
-ghost use Rattle.roster.specs.Roster.{most_lines};
 ghost use Rattle.roster.specs.Calls.{grant_of, grants_of, bytes_of};
 
-use crate::MOST_LINES;
 use binary::{put_u16, put_u32};
 use records::layout::{ANNOUNCEMENT_LENGTH, ANNOUNCEMENT_SIZE};
 use state::kinds::GRANT;
@@ -33,9 +31,8 @@ fn put_arguments(out: &mut [u8], at: usize, row: Login)
     requires { at + arguments_size ≤ length out.old }
     ensures { out.new ≡ splice out.old at (fill arguments_size 0 (argument_bytes (Grant row))) }
 {
-    let end = row.end;
     put_u32(out, at, row.login);
-    put_u32(out, at + 4, end.0);
+    put_u32(out, at + 4, row.end.0);
     put_u16(out, at + 8, row.rights);
     put_u16(out, at + 10, 0);
 }
@@ -49,18 +46,15 @@ pub fn put_grant(out: &mut [u8], at: usize, cycle: Cycle, day: Day, row: Login)
     put_arguments(out, at + 12, row);
 }
 
-// The grants of the first rows, one behind the other, in cycles that rise by one.
-pub fn put_grants(out: &mut [u8], cycle: Cycle, day: Day, rows: [Login; MOST_LINES], count: usize)
-    requires { (count ≤ most_lines) × (announcement_size * count ≤ length out.old) }
-    ensures { out.new ≡ overwrite (bytes_of (grants_of cycle day (take count rows))) out.old }
+// The grants of rows, one behind the other, in cycles that rise by one.
+#[tactic(auto, using(crate::proofs::GrantBytes::grants_written))]
+pub fn put_grants(out: &mut [u8], cycle: Cycle, day: Day, rows: &[Login])
+    requires { announcement_size * length rows.now ≤ length out.old }
+    ensures { out.new ≡ overwrite (bytes_of (grants_of cycle day rows.now)) out.old }
 {
-    let mut at: usize = 0;
     let mut next = cycle;
-    let mut i: usize = 0;
-    while i < count {
-        put_grant(out, at, next, day, rows[i]);
-        at += ANNOUNCEMENT_SIZE;
+    for (i, row) in rows.iter().enumerate() {
+        put_grant(out, ANNOUNCEMENT_SIZE * i, next, day, *row);
         next = next.next();
-        i += 1;
     }
 }

@@ -1,68 +1,38 @@
 // The lines of a roster.
-ghost use Rattle.std.specs.Prelude.{◌≡◌, ◌≤◌, length, take, drop};
-ghost use Rattle.std.proofs.Math.Option.{none};
-ghost use Rattle.roster.specs.Roster.{most_lines, roster_in};
+ghost use Rattle.std.specs.Prelude.{◌≡◌};
+ghost use Rattle.roster.specs.Roster.{roster_in};
 ghost use Rattle.roster.specs.Code.{line_found, line_in, rows_found};
 
-use crate::fields::{end_field, login_field, rights_field};
-use crate::{FieldRead, LineRead, MOST_LINES, RosterRead};
-use state::{Day, Login, NO_LOGIN};
+use crate::fields::{end_at, field, login_at, rights_at};
+use crate::rows::Rows;
+use state::{Day, Login};
 
-// The line at a position.
-fn line_at(text: &[u8], at: usize) -> LineRead
-    ensures { line_found text.now result ≡ line_in (drop at text.now) }
+// The line at the front.
+fn line_at(text: &[u8]) -> Option<(Login, &[u8])>
+    ensures { line_found result ≡ line_in text.now }
 {
-    let FieldRead::Value(login, second) = login_field(text, at) else {
-        return LineRead::Malformed;
-    };
-    let FieldRead::Value(end, third) = end_field(text, second) else {
-        return LineRead::Malformed;
-    };
-    let FieldRead::Value(rights, next) = rights_field(text, third) else {
-        return LineRead::Malformed;
-    };
+    let (login, text) = field(text, login_at, false)?;
+    let (end, text) = field(text, end_at, false)?;
+    let (rights, text) = field(text, rights_at, true)?;
     let row = Login {
-        login: login,
+        login,
         end: Day(end),
         rights: rights as u16,
     };
-    LineRead::Row(row, next)
-}
-
-// No roster; the table is handed on, so that none is filled anew.
-fn malformed(rows: [Login; MOST_LINES]) -> RosterRead
-    ensures result_value { rows_found result ≡ none }
-    ensures count_value { result.count ≡ 0 }
-{
-    RosterRead {
-        ok: false,
-        rows: rows,
-        count: 0,
-    }
+    Some((row, text))
 }
 
 // The rows of a whole roster, of up to 64 lines.
-pub fn read_roster(text: &[u8]) -> RosterRead
-    ensures result_value { rows_found result ≡ roster_in text.now }
-    ensures count_le_most_lines { (result.count ≤ most_lines) × (length (take result.count result.rows) ≡ result.count) }
+#[tactic(auto, using(crate::proofs::RowsRead::rows_read))]
+pub fn read_roster(text: &[u8]) -> Option<Rows>
+    ensures { rows_found result ≡ roster_in text.now }
 {
-    let mut rows = [NO_LOGIN; MOST_LINES];
-    let mut count: usize = 0;
-    let mut at: usize = 0;
-    while at < text.len() {
-        if count == MOST_LINES {
-            return malformed(rows);
-        }
-        let LineRead::Row(row, next) = line_at(text, at) else {
-            return malformed(rows);
-        };
-        rows[count] = row;
-        count += 1;
-        at = next;
+    let mut rows = Rows::new();
+    let mut rest = text;
+    while !rest.is_empty() {
+        let (row, behind) = line_at(rest)?;
+        rows.push(row)?;
+        rest = behind;
     }
-    RosterRead {
-        ok: true,
-        rows: rows,
-        count: count,
-    }
+    Some(rows)
 }

@@ -1,4 +1,4 @@
-// Rules 4 to 14: the lowest number that applies to an announcement, or 0.
+// Rules 4 to 14: the lowest refusal that applies to an announcement.
 #![tactic(auto)]
 
 mod checks;
@@ -6,7 +6,7 @@ mod checks;
 ghost use Rattle.std.specs.Prelude.{◌≡◌};
 ghost use Rattle.records.specs.Actions.{subject_of};
 ghost use Rattle.records.specs.declared.Action.TheVariants.{Grant};
-ghost use Rattle.refusals.specs.Refusals.{lowest, ◌or_else◌};
+ghost use Rattle.refusals.specs.Refusals.{number_in, lowest, ◌or_else◌};
 ghost use Rattle.rules.specs.Code.{FindsNotice, Finds};
 ghost use Rattle.rules.specs.Rules.{time_refusal, trustee_refusal, notice_refusal, action_refusal};
 ghost use Rattle.state.specs.Trustees.{is_majority};
@@ -20,15 +20,14 @@ use crate::checks::{
     propose_check, rejoin_check, remove_check,
 };
 use records::{Action, Announcement};
-use refusals::{lowest, or_else, refuse_if};
+use refusals::{Refusal, lowest, refuse_if};
 use state::kinds::{CANCEL, CERTIFY, END, GRANT, MINIMA, PRESENTS, PROPOSE, REJOIN, REMOVE};
 use state::limits::LAST_CYCLE;
 use state::seats::{present_seats, seat_at};
 use state::trustees::is_majority;
-use state::{Cycle, Day, Proposal, Seat, State};
+use state::{Cycle, Day, Login, Proposal, Seat, State};
 use tables::logins::eviction_for;
 use tables::proposals::mature_proposal;
-use tables::{Eviction, NO_EVICTION};
 
 // What the rules ask of the tables and the action uses.
 #[derive(Clone, Copy)]
@@ -40,85 +39,89 @@ pub struct Found {
     // The mature proposal that the action needs, unused where there is none.
     pub notice: Proposal,
     // What a grant evicts.
-    pub eviction: Eviction,
+    pub eviction: Option<Login>,
 }
 
 // What a grant evicts; no other action does.
-fn eviction_of(s: State, action: Action) -> Eviction
+fn eviction_of(s: State, action: Action) -> Option<Login>
     ensures { (y : Login) → action ≡ Grant y → result ≡ eviction_for y.login s.logins }
 {
     let Action::Grant { row } = action else {
-        return NO_EVICTION;
+        return None;
     };
-    let rows = s.logins;
-    eviction_for(rows, row.login)
+    eviction_for(s.logins, row.login)
 }
 
 // Looks it up, once for a delivery.
 pub fn find(s: State, d: Day, action: Action) -> Found
     ensures { Finds s d action result }
 {
-    let seats = s.seats;
-    let rows = s.proposals;
-    let notices = s.minima.notices;
-    let present = present_seats(seats);
-    let seat = seat_at(seats, action.seat());
-    let notice = mature_proposal(rows, notices, action.subject(), d);
-    let eviction = eviction_of(s, action);
     Found {
-        present,
-        seat,
-        notice,
-        eviction,
+        present: present_seats(s.seats),
+        seat: seat_at(s.seats, action.seat()),
+        notice: mature_proposal(s.proposals, s.minima.notices, action.subject(), d),
+        eviction: eviction_of(s, action),
     }
 }
 
 // Rules 4 to 7, in this cycle and with this agreed day.
-pub fn time_refusal(now: Cycle, agreed: Day, a: Announcement) -> u8
-    ensures { result ≡ time_refusal now agreed a }
+#[tactic(auto, unfolding(crate::specs::Rules::time_refusal))]
+pub fn time_refusal(now: Cycle, agreed: Day, a: Announcement) -> Result<(), Refusal>
+    ensures { number_in result ≡ time_refusal now agreed a }
 {
-    let cycle = a.cycle;
-    let day = a.day;
-    if cycle.is_before(now) {
-        return 4;
+    if a.cycle < now {
+        return Err(Refusal::CyclePassed);
     }
-    if now.is_before(cycle) {
-        return 5;
+    if now < a.cycle {
+        return Err(Refusal::CycleAhead);
     }
-    if now.is_same(Cycle(LAST_CYCLE)) {
-        return 6;
+    if now == Cycle(LAST_CYCLE) {
+        return Err(Refusal::LastCycle);
     }
-    refuse_if(day.is_before(agreed), 7)
+    refuse_if(a.day < agreed, Refusal::DayBack)
 }
 
 // Rule 8.
-fn trustee_refusal(trustees: u8, mask: u8) -> u8
-    ensures { result ≡ trustee_refusal (is_majority trustees mask) }
+fn trustee_refusal(trustees: u8, mask: u8) -> Result<(), Refusal>
+    ensures { number_in result ≡ trustee_refusal (is_majority trustees mask) }
 {
-    refuse_if(!is_majority(trustees, mask), 8)
+    refuse_if(!is_majority(trustees, mask), Refusal::NotSigned)
 }
 
 // Rule 10, where the action has a subject.
-fn notice_refusal(found: Found, action: Action) -> u8
-    ensures { (s : State) (d : Day) → FindsNotice s d action found → result ≡ notice_refusal s d (subject_of action) }
+#[tactic(auto, unfolding(crate::specs::Rules::notice_refusal))]
+fn notice_refusal(found: Found, action: Action) -> Result<(), Refusal>
+    ensures { (s : State) (d : Day) → FindsNotice s d action found → number_in result ≡ notice_refusal s d (subject_of action) }
 {
-    let subject = action.subject();
-    let notice = found.notice;
-    refuse_if((subject.kind != 0) & !notice.is_used(), 10)
+    let needed = action.subject().kind != 0;
+    refuse_if(needed & !found.notice.is_used(), Refusal::NotNoticed)
 }
 
-// The lowest of the numbers of the trustees, of the notice and of the check.
-fn refusal(unsigned: u8, unnoticed: u8, unfit: u8) -> u8
-    ensures { result ≡ (unsigned or_else lowest unnoticed unfit) }
+// The lowest of the refusals of the trustees, of the notice and of the check.
+fn refusal(
+    unsigned: Result<(), Refusal>,
+    unnoticed: Result<(), Refusal>,
+    unfit: Result<(), Refusal>,
+) -> Result<(), Refusal>
+    ensures { number_in result ≡ (number_in unsigned or_else lowest (number_in unnoticed) (number_in unfit)) }
 {
-    or_else(unsigned, lowest(unnoticed, unfit))
+    unsigned?;
+    lowest(unnoticed, unfit)
 }
 
 // Rules 8 to 14. One decision on the kind number: each kind names the level of its trustees and its check; others are malformed. Whether
 // it needs a notice is told by its subject.
-pub fn action_refusal(s: State, found: Found, d: Day, mask1: u8, mask2: u8, action: Action) -> u8
+#[tactic(auto, unfolding(crate::specs::Rules::action_refusal))]
+pub fn action_refusal(
+    s: State,
+    found: Found,
+    d: Day,
+    mask1: u8,
+    mask2: u8,
+    action: Action,
+) -> Result<(), Refusal>
     requires { Finds s d action found }
-    ensures { result ≡ action_refusal s d mask1 mask2 action }
+    ensures { number_in result ≡ action_refusal s d mask1 mask2 action }
 {
     let kind = action.kind();
     let level1 = trustee_refusal(s.trustees1, mask1);
@@ -134,6 +137,6 @@ pub fn action_refusal(s: State, found: Found, d: Day, mask1: u8, mask2: u8, acti
         REJOIN => refusal(level1, notice, rejoin_check(s, found, action)),
         GRANT => refusal(level1, notice, grant_check(found, d, action)),
         END => refusal(level1, notice, end_check(s, action)),
-        _ => 1,
+        _ => Err(Refusal::Malformed),
     }
 }

@@ -1,4 +1,5 @@
 -- What is asked of the arguments, in words.
+use Rattle.std.specs.Prelude.{Ok}
 use mathlib.Core.Path.{◌≡◌, refl, sym, subst, ◌∙◌}
 use mathlib.Core.Bool.{Bool, true, false, ◌&&◌, not, and-eq-true_iff, true≢false}
 use mathlib.Core.List.{List, [], ◌∷◌, Memᴰ}
@@ -10,7 +11,6 @@ use lib.ListN.{length, get_or}
 use Rattle.lists.specs.Fold.{any, Distinct}
 use Rattle.lists.proofs.Every.{any_of, any-to}
 use Rattle.binary.specs.Number.{overwrite}
-use Rattle.shares.specs.declared.SplitAnswer.TheVariants as Split
 use Rattle.shares.specs.Shares.{key_size, most_shares, shares_of, in_range, are_numbers}
 use Rattle.shares.specs.Calls.{split_of}
 use Rattle.shares.specs.Claims.{InRange, AreNumbers, ArgumentsInWords}
@@ -30,7 +30,7 @@ range-to k n r =
 
 -- a split gives its shares where all slices are long enough
 pub split-gives : (k n : ℕ) (key cs out : List ℕ) → InRange k n → key_size ≤ length key → key_size * (k - 1) ≤ length cs → key_size * n ≤ length out
-    → split_of key k n cs out ≡ record { answer = Split.Given n; slice = overwrite (shares_of k key cs n) out }
+    → split_of key k n cs out ≡ record { answer = Ok n; slice = overwrite (shares_of k key cs n) out }
 split-gives k n key cs out r lk lc lo =
     let fits : split_fits key k n cs out ≡ true =
     rw (le-leb key_size (length key) lk, le-leb (key_size * (k - 1)) (length cs) lc, le-leb (key_size * n) (length out) lo) in

@@ -1,4 +1,5 @@
 -- Any k shares give the key back.
+use Rattle.std.specs.Prelude.{Ok, Err}
 use mathlib.Core.Path.{◌≡◌, refl, sym, ap, ◌∙◌}
 use mathlib.Core.Bool.{Bool, true, false}
 use mathlib.Core.List.{List, [], ◌∷◌, ◌++◌}
@@ -10,8 +11,7 @@ use lib.Seq.{length-take-le, get_or-take}
 use Rattle.lists.proofs.Tests.{clash}
 use Rattle.binary.specs.Number.{Bytes, byte_at, overwrite}
 use Rattle.binary.proofs.Number.{bytes_take, bytes_drop}
-use Rattle.shares.specs.declared.SplitAnswer.TheVariants as Split
-use Rattle.shares.specs.declared.MergeAnswer.TheVariants as Merge
+use Rattle.refusals.specs.declared.Refusal.TheVariants.{OutOfRange, TooShort}
 use Rattle.shares.specs.Polynomial.{value_at_zero}
 use Rattle.shares.specs.Shares.{key_size, most_shares, coefficients_of, polynomial_of, shares_of, bytes_of, merged_key, in_range}
 use Rattle.shares.specs.Calls.{split_of, merge_of}
@@ -37,9 +37,9 @@ pub record Gave (key : List ℕ) (k n : ℕ) (cs out : List ℕ) : Type 0 where
   pub key-size : key_size ≤ length key
   pub coefficients : key_size * (k - 1) ≤ length cs
   pub room : key_size * n ≤ length out
-  pub is : split_of key k n cs out ≡ record { answer = Split.Given n; slice = overwrite (shares_of k key cs n) out }
+  pub is : split_of key k n cs out ≡ record { answer = Ok n; slice = overwrite (shares_of k key cs n) out }
 
-pub gave : (key : List ℕ) (k n : ℕ) (cs out : List ℕ) → (split_of key k n cs out).answer ≡ Split.Given n → Gave key k n cs out
+pub gave : (key : List ℕ) (k n : ℕ) (cs out : List ℕ) → (split_of key k n cs out).answer ≡ Ok n → Gave key k n cs out
 gave key k n cs out g = go (in_range k n) (split_fits key k n cs out) refl refl
   where
     go : (r f : Bool) → in_range k n ≡ r → split_fits key k n cs out ≡ f → Gave key k n cs out
@@ -47,10 +47,10 @@ gave key k n cs out g = go (in_range k n) (split_fits key k n cs out) refl refl
         let f = three-fit key_size (length key) (key_size * (k - 1)) (length cs) (key_size * n) (length out) h in
         record { ranged = e; key-size = f.0; coefficients = f.1; room = f.2; is = split-given key k n cs out e h }
     go true false e h =
-        let z : Split.Refused 28 ≡ Split.Given n = ap (λ x. x.answer) (sym (split-28 key k n cs out e h)) ∙ g in
+        let z : Err TooShort ≡ Ok n = ap (λ x. x.answer) (sym (split-28 key k n cs out e h)) ∙ g in
         clash (cc)
     go false f e h =
-        let z : Split.Refused 26 ≡ Split.Given n = ap (λ x. x.answer) (sym (split-26 key k n cs out e)) ∙ g in
+        let z : Err OutOfRange ≡ Ok n = ap (λ x. x.answer) (sym (split-26 key k n cs out e)) ∙ g in
         clash (cc)
 
 -- ---- the key byte by byte
@@ -96,5 +96,5 @@ any-shares-give-the-key key k n cs out hk hc g numbers rest key_out ln a lo =
     ) in
     ap (λ x. merge_of k n numbers (chosen x.slice xs ++ rest) key_out) p.is
     ∙ merge-given k n numbers shares key_out p.ranged (numbers-to n xs a) fits
-    ∙ ap (λ (l : List ℕ). record { answer = Merge.Given; slice = overwrite l key_out })
+    ∙ ap (λ (l : List ℕ). record { answer = Ok tt; slice = overwrite l key_out })
     (key-bytes k n key cs out r.0 r.2 numbers rest hk hc p.key-size p.coefficients p.room ln a)

@@ -1,4 +1,5 @@
 -- k-1 shares of a set, and k-1 after each renewal, leave every key open.
+use Rattle.std.specs.Prelude.{Ok}
 use mathlib.Core.Path.{◌≡◌, refl, sym, ap, subst}
 use mathlib.Core.List.{List, [], ◌∷◌, Memᴰ}
 use Prim.Native.Nat.{ℕ, ◌*◌, ◌-◌, ◌≤◌}
@@ -6,7 +7,6 @@ use native.Mathlib.Nat.{mul-zero}
 use native.Mathlib.Omega.{arith}
 use lib.ListN.{length}
 use Rattle.gf256.proofs.Laws.{add-zero}
-use Rattle.shares.specs.declared.SplitAnswer.TheVariants as Split
 use Rattle.shares.specs.Polynomial.{values, sums}
 use Rattle.shares.specs.Shares.{key_size}
 use Rattle.shares.specs.Calls.{split_of}
@@ -41,7 +41,7 @@ module _ (k n : ℕ) (r : InRange k n) (key : List ℕ) (hk : IsRun key_size key
   renewed-again : (cs out zs : List ℕ) → IsRun each cs → key_size * n ≤ length out → IsRun each zs
       → renewed k n room (split_of key k n cs out).slice zs ≡ (split_of key k n (sums cs zs) room).slice
   renewed-again cs out zs run lo h =
-      let given : (split_of key k n cs out).answer ≡ Split.Given n =
+      let given : (split_of key k n cs out).answer ≡ Ok n =
       ap (λ x. x.answer) (split-gives k n key cs out r (omega (arith, hk.size)) (omega (arith, run.size)) lo) in
       (renewed-is-split k n key cs out given zs room (omega (arith, h.size)) lr).0
 

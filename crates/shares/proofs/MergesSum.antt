@@ -1,4 +1,5 @@
 -- The merge of sums is the sum of the merges; and a share of a sum is the sum of the shares.
+use Rattle.std.specs.Prelude.{Ok, Err}
 use mathlib.Core.Path.{◌≡◌, sym, ap, ap₂, ◌∙◌}
 use mathlib.Core.Bool.{true}
 use mathlib.Core.List.{List, ◌++◌, append-nil}
@@ -11,8 +12,7 @@ use Rattle.lists.specs.Fold.{Distinct}
 use Rattle.lists.proofs.Tests.{clash}
 use Rattle.binary.specs.Number.{Bytes, byte_at, overwrite}
 use Rattle.gf256.specs.Field.{add}
-use Rattle.shares.specs.declared.MergeAnswer.TheVariants as Merge
-use Rattle.shares.specs.declared.AddAnswer.TheVariants as Add
+use Rattle.refusals.specs.declared.Refusal.TheVariants.{OutOfRange, BadShareNumber, TooShort}
 use Rattle.shares.specs.Polynomial.{sums, value_at_zero}
 use Rattle.shares.specs.Shares.{key_size, most_shares, bytes_of, merged_key}
 use Rattle.shares.specs.Calls.{merge_of, add_of}
@@ -36,11 +36,11 @@ record Summed (first second out : List ℕ) : Type 0 where
   pub room : length first ≤ length out
   pub is : (add_of first second out).slice ≡ overwrite (sums first second) out
 
-summed : (first second out : List ℕ) → (add_of first second out).answer ≡ Add.Given (length first) → Summed first second out
+summed : (first second out : List ℕ) → (add_of first second out).answer ≡ Ok (length first) → Summed first second out
 summed first second out g = go (add-answers first second out)
   where
     go : AddAnswering first second out (add_of first second out) → Summed first second out
-    go (R.too_short n e) = let z : Add.Refused 28 ≡ Add.Given (length first) = ap (λ x. x.answer) (sym e) ∙ g in clash (cc)
+    go (R.too_short n e) = let z : Err TooShort ≡ Ok (length first) = ap (λ x. x.answer) (sym e) ∙ g in clash (cc)
     go (R.given a b e) = record { second-size = a; room = b; is = ap (λ x. x.slice) e }
 
 -- ---- merges
@@ -98,13 +98,13 @@ record Merged (k n : ℕ) (numbers shares out : List ℕ) : Type 0 where
   pub shares-size : key_size * k ≤ length shares
   pub room : key_size ≤ length out
 
-merged : (k n : ℕ) (numbers shares out : List ℕ) → (merge_of k n numbers shares out).answer ≡ Merge.Given → Merged k n numbers shares out
+merged : (k n : ℕ) (numbers shares out : List ℕ) → (merge_of k n numbers shares out).answer ≡ Ok tt → Merged k n numbers shares out
 merged k n numbers shares out g = go (merge-answers k n numbers shares out)
   where
     go : MergeAnswering k n numbers shares out (merge_of k n numbers shares out) → Merged k n numbers shares out
-    go (C.out_of_range r e) = let z : Merge.Refused 26 ≡ Merge.Given = ap (λ x. x.answer) (sym e) ∙ g in clash (cc)
-    go (C.bad-number r a e) = let z : Merge.Refused 27 ≡ Merge.Given = ap (λ x. x.answer) (sym e) ∙ g in clash (cc)
-    go (C.too_short r a f e) = let z : Merge.Refused 28 ≡ Merge.Given = ap (λ x. x.answer) (sym e) ∙ g in clash (cc)
+    go (C.out_of_range r e) = let z : Err OutOfRange ≡ Ok tt = ap (λ x. x.answer) (sym e) ∙ g in clash (cc)
+    go (C.bad-number r a e) = let z : Err BadShareNumber ≡ Ok tt = ap (λ x. x.answer) (sym e) ∙ g in clash (cc)
+    go (C.too_short r a f e) = let z : Err TooShort ≡ Ok tt = ap (λ x. x.answer) (sym e) ∙ g in clash (cc)
     go (C.given r a b c d e) = record { range = r; each = a; enough = b; shares-size = c; room = d }
 
 pub merges-add : MergesAdd
@@ -122,7 +122,7 @@ merges-add k n numbers first second key_out hf hs g sum gs =
     ) in
     ap (λ (l : List ℕ). merge_of k n numbers l key_out) s.is
     ∙ merge-given k n numbers slice key_out (range-to k n m.range) (numbers-to n (take k numbers) m.each) fits
-    ∙ ap (λ (l : List ℕ). record { answer = Merge.Given; slice = overwrite l key_out })
+    ∙ ap (λ (l : List ℕ). record { answer = Ok tt; slice = overwrite l key_out })
     (merged-sum k n numbers first second sum hf hs m.range.n-below m.enough m.each m.shares-size s.second-size)
 
 -- ---- one share
@@ -148,7 +148,7 @@ each-adds-alone first second sum g x above within own size =
     ∙ ap (take key_size) (sums-drop at first second)
     ∙ sums-take key_size (drop at first) (drop at second) in
     add-given mine more own fits
-    ∙ ap₂ (λ (m : ℕ) (l : List ℕ). record { answer = Add.Given m; slice = l }) lm
+    ∙ ap₂ (λ (m : ℕ) (l : List ℕ). record { answer = Ok m; slice = l }) lm
     (ap (λ (l : List ℕ). sums mine more ++ l) (drop_of_length-le own (let h : length own ≤ length (sums mine more) = omega (arith, both, size) in h))
     ∙ append-nil (sums mine more)
     ∙ sym (ap (λ (l : List ℕ). share_in l x) s.is ∙ share))

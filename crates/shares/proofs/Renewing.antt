@@ -1,4 +1,5 @@
 -- A renewed set is a set of the same key.
+use Rattle.std.specs.Prelude.{Ok}
 use mathlib.Core.Path.{◌≡◌, refl, sym, ap, ◌∙◌}
 use mathlib.Core.List.Memᴰ
 use mathlib.Core.List.{List, [], ◌∷◌, ◌++◌}
@@ -8,8 +9,6 @@ use lib.ListN.{length, take}
 use Rattle.binary.specs.Number.{byte_at}
 use Rattle.gf256.specs.Field.{add}
 use Rattle.gf256.proofs.Laws.{add-zero}
-use Rattle.shares.specs.declared.SplitAnswer.TheVariants as Split
-use Rattle.shares.specs.declared.AddAnswer.TheVariants as Add
 use Rattle.shares.specs.Polynomial.{sums}
 use Rattle.shares.specs.Shares.{key_size}
 use Rattle.shares.specs.Calls.{split_of, merge_of, add_of}
@@ -26,23 +25,23 @@ zero-added : (key : List ℕ) (b : ℕ) → b < key_size → byte_at b key ≡ a
 zero-added key b h = sym (ap (add (byte_at b key)) (tabulate-at key_size (λ _. 0) b h) ∙ add-zero (byte_at b key))
 
 -- what two splits left, the second of the zero key
-module _ (k n : ℕ) (key cs out zs zero_out : List ℕ) (g : (split_of key k n cs out).answer ≡ Split.Given n)
-    (z : (split_of zero_key k n zs zero_out).answer ≡ Split.Given n) (sum : List ℕ) (room : key_size * n ≤ length sum) where
+module _ (k n : ℕ) (key cs out zs zero_out : List ℕ) (g : (split_of key k n cs out).answer ≡ Ok n)
+    (z : (split_of zero_key k n zs zero_out).answer ≡ Ok n) (sum : List ℕ) (room : key_size * n ≤ length sum) where
   size : key_size ≤ length key
   size = (gave key k n cs out g).key-size
 
   pub renewed-sum : add_of (front n (split_of key k n cs out).slice) (split_of zero_key k n zs zero_out).slice sum
-      ≡ record { answer = Add.Given (key_size * n); slice = (split_of key k n (sums cs zs) sum).slice }
+      ≡ record { answer = Ok (key_size * n); slice = (split_of key k n (sums cs zs) sum).slice }
   renewed-sum = added k n key zero_key key cs zs out zero_out (zero-added key) size g z sum room
 
-  pub renewed-given : (split_of key k n (sums cs zs) sum).answer ≡ Split.Given n
+  pub renewed-given : (split_of key k n (sums cs zs) sum).answer ≡ Ok n
   renewed-given = ap (λ x. x.answer) (sum_is k n key zero_key key cs zs out zero_out (zero-added key) size g z sum room)
 
 pub renewed-is-split : RenewedIsSplit
 unfolding renewed
 renewed-is-split k n key cs out g zs room lz lr =
     let r = range-of k n (gave key k n cs out g).ranged in
-    let z : (split_of zero_key k n zs room).answer ≡ Split.Given n =
+    let z : (split_of zero_key k n zs room).answer ≡ Ok n =
     ap (λ x. x.answer) (split-gives k n zero_key zs room r (omega (arith, tabulate-length key_size (λ _. 0))) lz lr) in
     (ap (λ x. x.slice) (renewed-sum k n key cs out zs room g z room lr), renewed-given k n key cs out zs room g z room lr)
 

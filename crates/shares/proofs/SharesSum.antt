@@ -1,4 +1,5 @@
 -- Sums of shares are shares of the sum.
+use Rattle.std.specs.Prelude.{Ok}
 use mathlib.Core.Path.{◌≡◌, refl, sym, ap, ap₂, ◌∙◌}
 use mathlib.Core.Bool.{true}
 use mathlib.Core.List.{List, ◌∷◌, ◌++◌}
@@ -9,9 +10,6 @@ use lib.ListN.{length, take, drop}
 use lib.Seq.{take_at}
 use Rattle.binary.specs.Number.{byte_at, overwrite}
 use Rattle.gf256.specs.Field.{add}
-use Rattle.shares.specs.declared.SplitAnswer.TheVariants as Split
-use Rattle.shares.specs.declared.AddAnswer.TheVariants as Add
-use Rattle.shares.specs.declared.MergeAnswer.TheVariants as Merge
 use Rattle.shares.specs.Polynomial.{eval, sums}
 use Rattle.shares.specs.Shares.{key_size, joined, polynomial_of, share_of, shares_of}
 use Rattle.shares.specs.Calls.{split_of, merge_of, add_of}
@@ -69,7 +67,7 @@ unfolding overwrite
 tail-out s s' out' h = sums-front s s' (drop (length s') out') h
 
 module _ (k n : ℕ) (key key' key'' cs cs' out out' : List ℕ) (each : (b : ℕ) → b < key_size → byte_at b key'' ≡ add (byte_at b key) (byte_at b key'))
-    (size : key_size ≤ length key'') (g : (split_of key k n cs out).answer ≡ Split.Given n) (g' : (split_of key' k n cs' out').answer ≡ Split.Given n)
+    (size : key_size ≤ length key'') (g : (split_of key k n cs out).answer ≡ Ok n) (g' : (split_of key' k n cs' out').answer ≡ Ok n)
     (sum : List ℕ) (room : key_size * n ≤ length sum) where
   abbrev p : Gave key k n cs out
   p = gave key k n cs out g
@@ -77,14 +75,14 @@ module _ (k n : ℕ) (key key' key'' cs cs' out out' : List ℕ) (each : (b : �
   abbrev p' : Gave key' k n cs' out'
   p' = gave key' k n cs' out' g'
 
-  pub sum_is : split_of key'' k n (sums cs cs') sum ≡ record { answer = Split.Given n; slice = overwrite (shares_of k key'' (sums cs cs') n) sum }
+  pub sum_is : split_of key'' k n (sums cs cs') sum ≡ record { answer = Ok n; slice = overwrite (shares_of k key'' (sums cs cs') n) sum }
   sum_is =
       split-gives k n key'' (sums cs cs') sum (range-of k n p.ranged) size
       (sums-holds (key_size * (k - 1)) cs cs' p.coefficients p'.coefficients) room
 
   -- the sum of what two splits left is what one of key'' leaves
   pub added : add_of (front n (split_of key k n cs out).slice) (split_of key' k n cs' out').slice sum
-      ≡ record { answer = Add.Given (key_size * n); slice = (split_of key'' k n (sums cs cs') sum).slice }
+      ≡ record { answer = Ok (key_size * n); slice = (split_of key'' k n (sums cs cs') sum).slice }
   added =
       let s = shares_of k key cs n in
       let s' = shares_of k key' cs' n in
@@ -98,14 +96,14 @@ module _ (k n : ℕ) (key key' key'' cs cs' out out' : List ℕ) (each : (b : �
       ) in
       ap₂ (λ (x y : List ℕ). add_of x y sum) (ap (λ x. front n x.slice) p.is ∙ front-is k n key cs out) (ap (λ x. x.slice) p'.is)
       ∙ add-given s w sum fits
-      ∙ ap₂ (λ (m : ℕ) (l : List ℕ). record { answer = Add.Given m; slice = overwrite l sum }) ls
+      ∙ ap₂ (λ (m : ℕ) (l : List ℕ). record { answer = Ok m; slice = overwrite l sum }) ls
       (tail-out s s' out' (omega (arith, ls, ls')) ∙ sym (shares_sum k key key' key'' cs cs' each p.coefficients p'.coefficients n))
-      ∙ ap (λ x. record { answer = Add.Given (key_size * n); slice = x.slice }) (sym sum_is)
+      ∙ ap (λ x. record { answer = Ok (key_size * n); slice = x.slice }) (sym sum_is)
 
 -- ---- of two keys
 
-module _ (k n : ℕ) (key key' cs cs' out out' : List ℕ) (g : (split_of key k n cs out).answer ≡ Split.Given n)
-    (g' : (split_of key' k n cs' out').answer ≡ Split.Given n) where
+module _ (k n : ℕ) (key key' cs cs' out out' : List ℕ) (g : (split_of key k n cs out).answer ≡ Ok n)
+    (g' : (split_of key' k n cs' out').answer ≡ Ok n) where
   each-byte : (b : ℕ) → b < key_size → byte_at b (sums key key') ≡ add (byte_at b key) (byte_at b key')
   each-byte b h = sums_at key key' b (omega (arith, (gave key k n cs out g).key-size)) (omega (arith, (gave key' k n cs' out' g').key-size))
 
@@ -123,4 +121,4 @@ summed-shares-give-the-sum k n key key' cs cs' out out' hk hk' hc hc' g g' sum r
     ap (λ x. merge_of k n numbers (chosen x.slice (take k numbers) ++ rest) key_out) (shares-add k n key key' cs cs' out out' g g' sum room)
     ∙ any-shares-give-the-key (sums key key') k n (sums cs cs') sum (sums-bytes key key' hk hk') (sums-bytes cs cs' hc hc') (ap (λ x. x.answer) is)
     numbers rest key_out ln a lo
-    ∙ ap (λ (l : List ℕ). record { answer = Merge.Given; slice = overwrite l key_out }) (sums-take key_size key key')
+    ∙ ap (λ (l : List ℕ). record { answer = Ok tt; slice = overwrite l key_out }) (sums-take key_size key key')

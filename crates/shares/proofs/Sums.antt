@@ -4,14 +4,14 @@ use mathlib.Core.List.{List, [], ◌∷◌, ◌++◌}
 use Prim.Native.Nat.{ℕ, zero, suc, ◌≤◌, ◌<◌}
 use native.Mathlib.Omega.{arith}
 use lib.ListN.{length, take, drop, get_or}
-use Rattle.binary.specs.Number.{Bytes}
+use Rattle.binary.specs.Number.{Bytes, overwrite}
 use Rattle.gf256.specs.Field.{add, mul}
 use Rattle.gf256.proofs.Laws.{add_assoc, add-four, add-zero, add-self, add-byte, mul-add}
 use Rattle.shares.specs.Polynomial.{eval, values, sums}
 use Rattle.shares.specs.Shares.{tabulate}
 use Rattle.shares.specs.Renewal.{PolynomialsAdd}
 use Rattle.shares.proofs.Algebra.{zero-add}
-use Rattle.shares.proofs.Tabulated.{tabulate-length, tabulate-same}
+use Rattle.shares.proofs.Tabulated.{tabulate-length, tabulate-same, Tabulated}
 
 -- ---- lists
 
@@ -37,8 +37,16 @@ sums_at (x ∷ a) (y ∷ b) zero h l = refl
 sums_at (x ∷ a) (y ∷ b) (suc i) h l = sums_at a b i (omega arith) (omega arith)
 
 -- as a loop writes them
-pub sums-tabulated : (a b : List ℕ) → length a ≤ length b → tabulate (length a) (λ i. add (get_or a i 0) (get_or b i 0)) ≡ sums a b
+sums-tabulated : (a b : List ℕ) → length a ≤ length b → tabulate (length a) (λ i. add (get_or a i 0) (get_or b i 0)) ≡ sums a b
 sums-tabulated a b h = tabulate-same (length a) _ (sums a b) (sums-length a b h) (λ i l. sym (sums_at a b i l (omega arith)))
+
+pub sums-written : (a b d l : List ℕ) (i : ℕ) → Tabulated d i (λ j. add (get_or a j 0) (get_or b j 0)) l → i ≡ length a → length a ≤ length b
+    → l ≡ overwrite (sums a b) d
+unfolding overwrite
+sums-written a b d l i t e h =
+    t.is
+    ∙ ap (λ (n : ℕ). tabulate n (λ j. add (get_or a j 0) (get_or b j 0)) ++ drop n d) e
+    ∙ ap₂ (λ (r : List ℕ) (n : ℕ). r ++ drop n d) (sums-tabulated a b h) (sym (sums-length a b h))
 
 pub sums-bytes : (a b : List ℕ) → Bytes a → Bytes b → Bytes (sums a b)
 unfolding sums

@@ -1,16 +1,14 @@
 -- Laws of lists that are given place by place.
-use mathlib.Core.Path.{◌≡◌, refl, sym, ap, ap₂, subst, ◌∙◌}
-use mathlib.Core.List.{List, [], ◌∷◌, ◌++◌}
+use mathlib.Core.Path.{◌≡◌, refl, sym, ap, subst, ◌∙◌}
+use mathlib.Core.List.{List, [], ◌∷◌, ◌++◌, append_assoc, append-nil}
 use Prim.Native.Nat.{ℕ, zero, suc, ◌+◌, ◌<◌, ◌≤◌}
 use native.Mathlib.Nat.{not-suc-le-zero, add-zero}
 use native.Mathlib.Decide.{dec_lt}
 use native.Mathlib.Numerals.{add-one}
 use native.Mathlib.Omega.{arith}
-use lib.ListN.{length, take, drop, get_or, set, length-append, get_or-append, get_or-eq_default}
-use lib.Seq.{ext_get_or, get_or-append_seam, get_or-append-add, get_or-drop, length-take-le, take_at, drop_at, drop-append-add}
+use lib.ListN.{length, drop, get_or, set, length-append, get_or-append, get_or-eq_default, drop_of_length-le, replicate, length-replicate, get_or-replicate}
+use lib.Seq.{ext_get_or, get_or-append_seam, get_or-append-add, get_or-drop, drop-cons, set_at}
 use Rattle.binary.specs.Number.{Bytes}
-use Rattle.binary.specs.Splice.{splice}
-use Rattle.binary.proofs.Splices.{splice-none, splice-stores, splice-splice}
 use Rattle.shares.specs.Shares.{tabulate}
 
 pub tabulate-length : (n : ℕ) (f : ℕ → ℕ) → length (tabulate n f) ≡ n
@@ -47,55 +45,53 @@ tabulate-bytes n f small i = go (dec_lt i n)
     go (yes l) = rw (tabulate-at n f i l) (small i)
     go (no g) = rw (get_or-eq_default (tabulate n f) 0 (let l : length (tabulate n f) ≤ i = omega (arith, tabulate-length n f) in l)) (omega arith)
 
--- a loop that writes them from an index on
-pub tabulate-none : (d : List ℕ) (at : ℕ) (f : ℕ → ℕ) → d ≡ splice d at (tabulate 0 f)
-unfolding tabulate
-tabulate-none d at f = sym (splice-none d at)
-
-pub tabulate-more : (d₀ d : List ℕ) (at i x : ℕ) (f : ℕ → ℕ) → length d ≡ length d₀ → d ≡ splice d₀ at (tabulate i f) → at + i < length d₀ → x ≡ f i
-    → set d (at + i) x ≡ splice d₀ at (tabulate (i + 1) f)
-unfolding tabulate
-tabulate-more d₀ d at i x f l w h e =
-    let size : at + length (tabulate i f) ≡ at + i = ap (λ (n : ℕ). at + n) (tabulate-length i f) in
-    splice-stores d (at + i) x [] (omega (arith, l))
-    ∙ ap₂ (λ (q : List ℕ) (y : ℕ). splice q (at + i) (y ∷ [])) w e
-    ∙ splice-splice d₀ at (at + i) (tabulate i f) (f i ∷ []) size (omega arith)
-    ∙ ap (λ (n : ℕ). splice d₀ at (tabulate n f)) (sym (add-one i))
-
--- ---- rows of a slice
-
--- byte i of what follows a list of n
+-- element i of what follows a list of n
 pub behind : (l r : List ℕ) (n i : ℕ) → length l ≡ n → get_or (l ++ r) (n + i) 0 ≡ get_or r i 0
 behind l r n i e = ap (λ (m : ℕ). get_or (l ++ r) (m + i) 0) (sym e) ∙ get_or-append-add l r i 0
 
-module _ (d : List ℕ) (at : ℕ) where
-  -- what is written from index `at` on
-  pub row-byte : (v : List ℕ) (i : ℕ) → at ≤ length d → i < length v → get_or (splice d at v) (at + i) 0 ≡ get_or v i 0
-  unfolding splice
-  row-byte v i h l =
-      behind (take at d) (v ++ drop (at + length v) d) at i (length-take-le at d h) ∙ get_or-append v (drop (at + length v) d) 0 i l
+-- the list d, once a loop has written the first i of them to its front
+pub record Tabulated (d : List ℕ) (i : ℕ) (f : ℕ → ℕ) (l : List ℕ) : Type 0 where
+  pub is : l ≡ tabulate i f ++ drop i d
 
-  -- and what stands behind it
-  pub rest-byte : (n : ℕ) (f : ℕ → ℕ) → at ≤ length d → get_or (splice d at (tabulate n f)) (at + n) 0 ≡ get_or d (at + n) 0
-  unfolding splice
-  rest-byte n f h =
-      let v = tabulate n f in
-      let size = tabulate-length n f in
-      behind (take at d) (v ++ drop (at + length v) d) at n (length-take-le at d h)
-      ∙ ap (λ (i : ℕ). get_or (v ++ drop (at + length v) d) i 0) (sym (add-zero n))
-      ∙ behind v (drop (at + length v) d) n 0 size
-      ∙ get_or-drop (at + length v) d 0 0
-      ∙ ap (λ (i : ℕ). get_or d i 0) (add-zero (at + length v) ∙ ap (λ (i : ℕ). at + i) size)
+pub tabulated_none : (d : List ℕ) (f : ℕ → ℕ) → Tabulated d 0 f d
+unfolding tabulate
+tabulated_none d f = record { is = refl }
 
-  -- a row that is written again
-  pub row-again : (v w : List ℕ) → at + length v ≤ length d → length v ≡ length w → splice (splice d at v) at w ≡ splice d at w
-  unfolding splice
-  row-again v w h e =
-      let p = take at d in
-      let r = drop (at + length v) d in
-      let lp : length p ≡ at = length-take-le at d (omega arith) in
-      ap₂ (λ (a b : List ℕ). a ++ (w ++ b)) (take_at p (v ++ r) at lp)
-      (ap (λ (n : ℕ). drop (n + length w) (p ++ (v ++ r))) (sym lp)
-      ∙ drop-append-add p (v ++ r) (length w)
-      ∙ drop_at v r (length w) e
-      ∙ ap (λ (n : ℕ). drop (at + n) d) e)
+module _ {d l : List ℕ} {i : ℕ} {f : ℕ → ℕ} (so_far : Tabulated d i f l) where
+  -- what it has not come to stands as before
+  pub tabulated_next : get_or l i 0 ≡ get_or d i 0
+  tabulated_next =
+      ap (λ (q : List ℕ). get_or q i 0) so_far.is
+      ∙ ap (λ (m : ℕ). get_or (tabulate i f ++ drop i d) m 0) (sym (add-zero i))
+      ∙ behind (tabulate i f) (drop i d) i 0 (tabulate-length i f)
+      ∙ get_or-drop i d 0 0
+      ∙ ap (λ (m : ℕ). get_or d m 0) (add-zero i)
+
+  pub tabulated_more : {x : ℕ} → i < length d → x ≡ f i → Tabulated d (i + 1) f (set l i x)
+  unfolding tabulate
+  tabulated_more {x} h e =
+      let t = tabulate i f in
+      let is = ap (λ (q : List ℕ). set q i x) (so_far.is ∙ ap (λ (r : List ℕ). t ++ r) (drop-cons d i 0 h))
+      ∙ set_at t (get_or d i 0) (drop (suc i) d) x i (tabulate-length i f)
+      ∙ ap (λ (y : ℕ). t ++ (y ∷ drop (suc i) d)) e
+      ∙ sym (append_assoc t (f i ∷ []) (drop (suc i) d))
+      ∙ ap (λ (n : ℕ). tabulate n f ++ drop n d) (sym (add-one i)) in
+      record { is = is }
+
+  pub tabulated_all : (n : ℕ) → length d ≡ n → i ≡ n → l ≡ tabulate n f
+  tabulated_all n s e =
+      so_far.is ∙ ap (λ (r : List ℕ). tabulate i f ++ r) (drop_of_length-le d {i = i} (omega arith)) ∙ append-nil (tabulate i f) ∙ ap (λ (m : ℕ). tabulate m f) e
+
+-- ---- rows that are made step by step
+
+pub row-start : (n : ℕ) (d : List ℕ) (f : ℕ → ℕ) → d ≡ replicate n 0 → ((b : ℕ) → b < n → 0 ≡ f b) → d ≡ tabulate n f
+row-start n d f e none = e ∙ sym (tabulate-same n f (replicate n 0) (length-replicate n 0) (λ b h. sym (get_or-replicate n b 0 0 h ∙ none b h)))
+
+-- the row was given by f, and each byte is changed to what g gives
+pub row_step : (n : ℕ) (d d' : List ℕ) (f v g : ℕ → ℕ) → d ≡ tabulate n f → d' ≡ tabulate n v
+    → ((b : ℕ) → b < n → get_or d b 0 ≡ f b → v b ≡ g b) → d' ≡ tabulate n g
+row_step n d d' f v g e w step =
+    w ∙ tabulate-ext n v g (λ b h. step b h (ap (λ (q : List ℕ). get_or q b 0) e ∙ tabulate-at n f b h))
+
+-- for the loops of the code
+pub ruleset tabulated = (tabulated_none, tabulated_more, tabulated_next, tabulated_all)

@@ -1,14 +1,19 @@
 -- One turn of each loop of the code, and its end. A loop that goes down stands before index i, of which it then takes the element at i - 1.
-use mathlib.Core.Path.{◌≡◌, refl, sym, ap, ap₂, ◌∙◌}
-use mathlib.Core.Bool.{true, ◌&&◌, not}
-use mathlib.Core.List.{List, [], ◌∷◌, ◌++◌}
+use mathlib.Core.Path.{◌≡◌, refl, sym, ap, ap₂, subst, ◌∙◌}
+use mathlib.Core.Bool.{Bool, true, false, ◌&&◌, ◌||◌, not, and-false}
+use mathlib.Core.Logic.{◌≢◌}
+use mathlib.Core.List.{List, [], ◌∷◌, ◌++◌, append-nil}
 use Prim.Native.Nat.{ℕ, zero, suc, ◌+◌, ◌*◌, ◌-◌, ◌<◌, ◌≤◌}
 use native.Mathlib.Nat.{not-suc-le-zero, le_of_suc-le-suc, le_trans, le_of_eq, mul-suc, mul_comm, mul-le-mul_left}
 use native.Mathlib.Numerals.{add-one}
 use native.Mathlib.Omega.{arith}
+use borrow.Author.Tests.{le-leb}
+use borrow.Rule.Slice.PartMut.{put_mid}
 use lib.Dec.{eqb, leb}
-use lib.ListN.{length, take, drop, get_or, set, length-set, length-drop, drop_of_length-le, get_or-append}
+use lib.ListN.{length, take, drop, length-append, get_or, set, length-set, length-drop, drop_of_length-le, get_or-append}
 use lib.Seq.{drop-cons, drop-length, drop_at, take-suc, take_all, length-take-le, set_split, get_or-take}
+use Rattle.std.specs.List.{list_any}
+use Rattle.std.proofs.lemmas.Bool.Decides.{nat_tests}
 use Rattle.lists.specs.Fold.{any}
 use Rattle.gf256.specs.Field.{add, mul, divide}
 use Rattle.gf256.proofs.Laws.{add_assoc, add_comm}
@@ -22,18 +27,24 @@ before i = omega arith
 
 -- ---- values of polynomials
 
-eval-drop : (x i : ℕ) (cs : List ℕ) → i < length cs → add (get_or cs i 0) (mul x (eval x (drop (suc i) cs))) ≡ eval x (drop i cs)
+pub eval-turn : (x i : ℕ) (cs : List ℕ) → i < length cs → add (get_or cs i 0) (mul x (eval x (drop (suc i) cs))) ≡ eval x (drop i cs)
 unfolding eval
-eval-drop x i cs h = rw (drop-cons cs i 0 h)
-
-pub eval-turn : (x i : ℕ) (cs : List ℕ) → 0 < i → i ≤ length cs
-    → add (get_or cs (i - 1) 0) (mul x (eval x (drop i cs))) ≡ eval x (drop (i - 1) cs)
-eval-turn x zero cs p h = absurd (not-suc-le-zero p)
-eval-turn x (suc i) cs p h = rw (before i) (eval-drop x i cs h)
+eval-turn x i cs h = rw (drop-cons cs i 0 h)
 
 pub eval-end : (x : ℕ) (cs : List ℕ) → 0 ≡ eval x (drop (length cs) cs)
 unfolding eval
 eval-end x cs = rw (drop-length cs)
+
+-- ---- slices that begin at an index or behind it
+
+pub from_is : (j : ℕ) (l : List ℕ) → take (length l - j) (drop j l) ≡ drop j l
+from_is j l = take_all (length l - j) (drop j l) (omega (arith, length-drop j l))
+
+abbrev pub behind_index : ℕ → List ℕ → List ℕ
+behind_index j l = take (length l - (j + 1)) (drop (j + 1) l)
+
+behind_is : (j : ℕ) (l : List ℕ) → behind_index j l ≡ drop (suc j) l
+behind_is j l = from_is (j + 1) l ∙ ap (λ (n : ℕ). drop n l) (add-one j)
 
 -- ---- weights
 
@@ -153,39 +164,77 @@ weights-none us ws n = record {
   are = drop_of_length-le ws {i = length us} (omega arith) ∙ sym (ap weights (drop_of_length-le us {i = length us} (omega arith)));
 }
 
-weights-before : (us ws ws' : List ℕ) (i t v : ℕ) → Weights us (suc i) ws → length ws' ≡ length ws → ws' ≡ weighed_from (get_or us i 0) (suc i) us ws
-    → t ≡ total (weighed (get_or us i 0) (drop (suc i) us) (drop (suc i) ws)) → v ≡ add 1 t → Weights us i (set ws' i v)
+-- the rest's weights stand behind index i, changed by the number there, whose own weight is then written
+weights-before : (us ws rest : List ℕ) (i t v : ℕ) → Weights us (suc i) ws → length rest ≡ length ws - suc i → let x = get_or us i 0 in
+    let us' = drop (suc i) us in let ws' = drop (suc i) ws in rest ≡ weighed x us' ws' → t ≡ total (weighed x us' ws') → v ≡ add 1 t
+    → Weights us i (set (put_mid (suc i) (length ws - suc i) ws rest) i v)
 unfolding weights
-weights-before us ws ws' i t v h same e s q =
+weights-before us ws rest i t v h size e s q =
     let x = get_or us i 0 in
-    let rest : drop (suc i) ws' ≡ weighed x (drop (suc i) us) (weights (drop (suc i) us)) =
-    ap (drop (suc i)) e
-    ∙ drop_at (take (suc i) ws) (weighed x (drop (suc i) us) (drop (suc i) ws)) (suc i)
-    (length-take-le (suc i) ws (omega (arith, h.within, h.same_length)))
-    ∙ ap (weighed x (drop (suc i) us)) h.are in
-    let inside : i < length ws' = omega (arith, same, h.within, h.same_length) in
+    let us' = drop (suc i) us in
+    let p = take (suc i) ws in
+    let within : suc i ≤ length us = h.within in
+    let lp : length p ≡ suc i = length-take-le (suc i) ws (omega (arith, h.same_length)) in
+    let tail : drop (length ws - suc i) (drop (suc i) ws) ≡ [] = drop_of_length-le (drop (suc i) ws) {i = length ws - suc i} (omega (arith, length-drop (suc i) ws)) in
+    let changed : put_mid (suc i) (length ws - suc i) ws rest ≡ p ++ rest =
+    ap (λ (r : List ℕ). p ++ (rest ++ r)) tail ∙ ap (λ (r : List ℕ). p ++ r) (append-nil rest) in
+    let long : length (p ++ rest) ≡ length us = length-append p rest ∙ (omega (arith, h.same_length)) in
     record {
-      within = omega (arith, h.within);
-      same_length = length-set ws' i v ∙ same ∙ h.same_length;
+      within = omega arith;
+      same_length = ap (λ (l : List ℕ). length (set l i v)) changed ∙ length-set (p ++ rest) i v ∙ long;
       are =
-          ap (drop i) (set_split ws' i v inside)
-          ∙ drop_at (take i ws') (v ∷ drop (suc i) ws') i (length-take-le i ws' (omega arith))
-          ∙ ap₂ (λ (y : ℕ) (l : List ℕ). y ∷ l) (q ∙ ap (add 1) (s ∙ ap (λ (l : List ℕ). total (weighed x (drop (suc i) us) l)) h.are)) rest
-          ∙ sym (ap weights (drop-cons us i 0 h.within));
+          ap (λ (l : List ℕ). drop i (set l i v)) changed
+          ∙ ap (drop i) (set_split (p ++ rest) i v (omega arith))
+          ∙ drop_at (take i (p ++ rest)) (v ∷ drop (suc i) (p ++ rest)) i (length-take-le i (p ++ rest) (omega arith))
+          ∙ ap₂ (λ (y : ℕ) (l : List ℕ). y ∷ l) (q ∙ ap (add 1) (s ∙ ap (λ (l : List ℕ). total (weighed x us' l)) h.are)) (drop_at p rest (suc i) lp ∙ e ∙ ap (weighed x us') h.are)
+          ∙ sym (ap weights (drop-cons us i 0 within));
     }
 
-pub weights-turn : (us ws ws' : List ℕ) (i t v : ℕ) → 0 < i → Weights us i ws → length ws' ≡ length ws → ws' ≡ weighed_from (get_or us (i - 1) 0) i us ws
-    → t ≡ total (weighed (get_or us (i - 1) 0) (drop i us) (drop i ws)) → v ≡ add 1 t → Weights us (i - 1) (set ws' (i - 1) v)
-weights-turn us ws ws' zero t v p h same e s q = absurd (not-suc-le-zero p)
-weights-turn us ws ws' (suc i) t v p h same e s q =
-    rw (before i) (weights-before us ws ws' i t v h same (rw (before i) at e) (rw (before i) at s) q)
+pub weights-turn : (us ws rest : List ℕ) (i j t v : ℕ) → suc j ≡ i → Weights us i ws → length rest ≡ length ws - (j + 1) → let x = get_or us j 0 in
+    let us' = behind_index j us in let ws' = behind_index j ws in rest ≡ weighed x us' ws' → t ≡ total (weighed x us' ws') → v ≡ add 1 t
+    → Weights us j (set (put_mid (j + 1) (length ws - (j + 1)) ws rest) j v)
+weights-turn us ws rest i j t v f h size e s q =
+    let x = get_or us j 0 in
+    let same = ap₂ (weighed x) (behind_is j us) (behind_is j ws) in
+    rw (add-one j)
+    (weights-before us ws rest j t v (subst (λ (n : ℕ). Weights us n ws) (sym f) h) (rw (add-one j) at size) (e ∙ same) (s ∙ ap total same) q)
 
 -- ---- tests of numbers
 
-pub numbers-turn : (n : ℕ) (xs : List ℕ) (i : ℕ) → i < length xs → let x = get_or xs i 0 in
-    are_numbers n (drop i xs) ≡ ((leb 1 x && leb x n) && (not (any (eqb x) (drop (i + 1) xs)) && are_numbers n (drop (i + 1) xs)))
-unfolding are_numbers
-numbers-turn n xs i h = rw (add-one, drop-cons xs i 0 h)
+same_either_way : (a b : ℕ) → eqb a b ≡ eqb b a
+same_either_way a b = grind (arith, nat_tests)
+
+contained : (x : ℕ) (l : List ℕ) → list_any (λ y. eqb y x) l ≡ any (eqb x) l
+unfolding any
+contained x [] = refl
+contained x (y ∷ l) = ap₂ ◌||◌ (same_either_way y x) (contained x l)
+
+module _ (n : ℕ) (xs : List ℕ) (i : ℕ) (h : i < length xs) where
+  -- the number at index i, and whether it comes again, as the code tests it
+  abbrev here : ℕ
+  here = get_or xs i 0
+
+  abbrev again : Bool
+  again = list_any (λ y. eqb y here) (behind_index i xs)
+
+  again_is : again ≡ any (eqb here) (drop (suc i) xs)
+  again_is = ap (list_any (λ y. eqb y here)) (behind_is i xs) ∙ contained here (drop (suc i) xs)
+
+  turn : are_numbers n (drop i xs) ≡ ((leb 1 here && leb here n) && (not again && are_numbers n (drop (i + 1) xs)))
+  unfolding are_numbers
+  turn = rw (again_is, add-one, drop-cons xs i 0 h)
+
+  pub numbers-zero : here ≡ 0 → are_numbers n (drop i xs) ≡ false
+  numbers-zero e = turn ∙ rw e
+
+  pub numbers-above : n < here → are_numbers n (drop i xs) ≡ false
+  numbers-above l = let f : leb here n ≡ false = grind (arith, nat_tests) in turn ∙ rw (f, and-false (leb 1 here))
+
+  pub numbers-again : again ≡ true → are_numbers n (drop i xs) ≡ false
+  numbers-again e = turn ∙ rw (e, and-false (leb 1 here && leb here n))
+
+  pub numbers-turn : here ≢ 0 → here ≤ n → again ≡ false → are_numbers n (drop i xs) ≡ are_numbers n (drop (i + 1) xs)
+  numbers-turn p l e = turn ∙ rw (le-leb 1 here (omega arith), le-leb here n l, e)
 
 pub numbers-end : (n : ℕ) (xs : List ℕ) (i : ℕ) → length xs ≤ i → are_numbers n (drop i xs) ≡ true
 unfolding are_numbers
@@ -199,3 +248,8 @@ in-part d b h = le_trans (le_of_eq (sym (mul-suc d b))) (le_trans (mul-le-mul_le
 pub coefficients-length : (k : ℕ) (cs : List ℕ) (b : ℕ) → b < key_size → key_size * (k - 1) ≤ length cs → length (coefficients_of k cs b) ≡ k - 1
 coefficients-length k cs b h l =
     length-take-le (k - 1) (drop ((k - 1) * b) cs) (omega (arith, length-drop ((k - 1) * b) cs, in-part (k - 1) b h))
+
+-- for the loops of the code
+pub ruleset weighing = (weights-none, weights-turn)
+
+pub ruleset numbering = (numbers-zero, numbers-above, numbers-again, numbers-turn, numbers-end)

@@ -2,11 +2,12 @@
 use mathlib.Core.Path.{◌≡◌, refl, sym, ap, ap₂, ◌∙◌}
 use mathlib.Core.List.{List, ◌++◌}
 use Prim.Native.Nat.{ℕ, suc, ◌+◌, ◌-◌, ◌*◌, ◌≤◌}
-use native.Mathlib.Nat.{zero-add, sub-zero}
+use native.Mathlib.Nat.{zero-add}
 use native.Mathlib.Numerals.{add-one}
 use native.Mathlib.Omega.{arith}
-use lib.ListN.{length, take, drop, get_or, length-append}
-use lib.Seq.{take_all, take_at, length-take-le}
+use lib.ListN.{length, take, drop, get_or}
+use borrow.Rule.Slice.PartMut.{put_mid}
+use lib.Seq.{take_all, length-take-le, drop-drop}
 use Rattle.binary.specs.Number.{Bytes, overwrite}
 use Rattle.binary.specs.Splice.{splice}
 use Rattle.binary.proofs.Splices.{splice-overwrite, splice-splice}
@@ -16,6 +17,13 @@ use Rattle.shares.specs.Code.{weights, weighted_sum, weighed_key}
 use Rattle.shares.proofs.Tabulated.{tabulate-length, tabulate-ext, tabulate-bytes}
 use Rattle.shares.proofs.Parts.{joined_length}
 use Rattle.shares.proofs.Weighing.{weights-length, sum-is-value}
+
+-- ---- a part of a slice that is written to
+
+written : (at k : ℕ) (d : List ℕ) {v w : List ℕ} → v ≡ w → k ≡ length w → put_mid at k d v ≡ splice d at w
+unfolding splice
+written at k d {v} {w} e s =
+    ap₂ (λ (l : List ℕ) (m : ℕ). take at d ++ (l ++ drop m (drop at d))) e s ∙ ap (λ (l : List ℕ). take at d ++ (w ++ l)) (drop-drop (length w) at d)
 
 -- ---- shares
 
@@ -33,12 +41,12 @@ module _ (k : ℕ) (key cs : List ℕ) where
   shares-none d = refl
 
   -- one share more
-  pub shares-more : (d₀ d d' : List ℕ) (n x : ℕ) → d ≡ overwrite (shares_of k key cs n) d₀ → x ≡ n + 1 → key_size * n ≤ length d₀
-      → d' ≡ splice d (key_size * n) (share_of k key cs x) → d' ≡ overwrite (shares_of k key cs (n + 1)) d₀
+  pub shares-more : (d₀ d row : List ℕ) (n x : ℕ) → d ≡ overwrite (shares_of k key cs n) d₀ → x ≡ n + 1 → key_size * n ≤ length d₀
+      → row ≡ share_of k key cs x → put_mid (key_size * n) (key_size * n + key_size - key_size * n) d row ≡ overwrite (shares_of k key cs (n + 1)) d₀
   unfolding shares_of joined
-  shares-more d₀ d d' n x w e h s =
+  shares-more d₀ d row n x w e h s =
       let at : 0 + length (shares_of k key cs n) ≡ key_size * n = zero-add (length (shares_of k key cs n)) ∙ shares-length n in
-      s
+      written (key_size * n) (key_size * n + key_size - key_size * n) d s (omega (arith, share-length x))
       ∙ ap₂ (λ (l : List ℕ) (i : ℕ). splice l (key_size * n) (share_of k key cs i)) (w ∙ sym (splice-overwrite d₀ (shares_of k key cs n))) (e ∙ add-one n)
       ∙ splice-splice d₀ 0 (key_size * n) (shares_of k key cs n) (share_of k key cs (suc n)) at h
       ∙ splice-overwrite d₀ (shares_of k key cs (suc n))
@@ -57,24 +65,27 @@ merged-key numbers shares h =
     (tabulate-bytes (length numbers) (λ j. get_or shares (key_size * j + b) 0) (λ j. h (key_size * j + b)))
     ∙ ap (λ (l : List ℕ). value_at_zero l ys) (sym (take_all (length numbers) numbers (omega arith))))
 
--- the weights stand at the front of their table
-pub front_fits : (ws rest : List ℕ) (k : ℕ) → length ws ≡ k → k ≤ length (ws ++ rest)
-front_fits ws rest k e = omega (arith, length-append ws rest)
-
-pub front-is : (ws rest : List ℕ) (k : ℕ) → length ws ≡ k → take (k - 0) (drop 0 (ws ++ rest)) ≡ ws
-front-is ws rest k e = ap (λ (n : ℕ). take n (ws ++ rest)) (sub-zero k) ∙ take_at ws rest k e
-
 -- ---- the first k numbers, as a slice of their own
 
-module _ (k : ℕ) (numbers : List ℕ) where
-  pub length_front : k ≤ length numbers → length (take (k - 0) (drop 0 numbers)) ≡ k
-  length_front h = ap (λ (n : ℕ). length (take n numbers)) (sub-zero k) ∙ length-take-le k numbers h
+module _ (k : ℕ) (numbers shares : List ℕ) (h : k ≤ length numbers) where
+  abbrev front : List ℕ
+  front = take k numbers
 
-  pub merged-front : (shares : List ℕ) → k ≤ length numbers → let front = take (k - 0) (drop 0 numbers) in
-      merged_key (length front) front shares ≡ merged_key k numbers shares
+  merged-front : merged_key (length front) front shares ≡ merged_key k numbers shares
   unfolding merged_key
-  merged-front shares h =
-      let same : take k (take (k - 0) (drop 0 numbers)) ≡ take k numbers =
-      ap (λ (n : ℕ). take k (take n numbers)) (sub-zero k) ∙ take_all k (take k numbers) (omega (arith, length-take-le k numbers h)) in
-      ap (λ (n : ℕ). merged_key n (take (k - 0) (drop 0 numbers)) shares) (length_front h)
-      ∙ ap (λ (l : List ℕ). tabulate key_size (λ b. value_at_zero l (bytes_of k shares b))) same
+  merged-front =
+      let size : length front ≡ k = length-take-le k numbers h in
+      ap (λ (n : ℕ). merged_key n front shares) size
+      ∙ ap (λ (l : List ℕ). tabulate key_size (λ b. value_at_zero l (bytes_of k shares b))) (take_all k front (omega arith))
+
+  merged-length : length (merged_key k numbers shares) ≡ key_size
+  unfolding merged_key
+  merged-length = tabulate-length key_size (λ b. value_at_zero front (bytes_of k shares b))
+
+  -- their key at the front of a slice
+  pub merged-written : (row out : List ℕ) → row ≡ merged_key (length front) front shares → row ++ drop key_size out ≡ overwrite (merged_key k numbers shares) out
+  unfolding overwrite
+  merged-written row out e = ap₂ (λ (l : List ℕ) (n : ℕ). l ++ drop n out) (e ∙ merged-front) (sym merged-length)
+
+-- for the loop over shares
+pub ruleset sharing = (shares-none, shares-more)

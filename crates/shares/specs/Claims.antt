@@ -1,12 +1,10 @@
 -- What trustees can rely on.
-use Rattle.std.specs.Prelude.{◌≡◌, true, ℕ, suc, ◌*◌, ◌-◌, ◌≤◌, ◌<◌, length, take, drop}
+use Rattle.std.specs.Prelude.{◌≡◌, true, ℕ, suc, ◌*◌, ◌-◌, ◌≤◌, ◌<◌, length, take, drop, Result, Ok, Err}
 use mathlib.Core.List.{List, [], ◌∷◌, ◌++◌, Memᴰ}
 use Rattle.lists.specs.Fold.{Distinct}
 use Rattle.binary.specs.Number.{Bytes, overwrite}
-use Rattle.shares.specs.declared.SplitAnswer.{SplitAnswer}
-use Rattle.shares.specs.declared.SplitAnswer.TheVariants as Split
-use Rattle.shares.specs.declared.MergeAnswer.{MergeAnswer}
-use Rattle.shares.specs.declared.MergeAnswer.TheVariants as Merge
+use Rattle.refusals.specs.declared.Refusal.{Refusal}
+use Rattle.refusals.specs.declared.Refusal.TheVariants.{OutOfRange, BadShareNumber, TooShort}
 use Rattle.shares.specs.Polynomial.{eval, values, value_at_zero}
 use Rattle.shares.specs.Shares.{key_size, most_shares, shares_of, merged_key, in_range, are_numbers}
 use Rattle.shares.specs.Calls.{Outcome, split_of, merge_of}
@@ -42,14 +40,14 @@ chosen slice (x ∷ xs) = share_in slice x ++ chosen slice xs
 -- of a slice, the shares with any k numbers, in any order, and whatever follows them, are merged to this key
 abbrev pub AnyGive : ℕ → ℕ → List ℕ → List ℕ → Type 0
 AnyGive k n slice key = (numbers rest key_out : List ℕ) → k ≤ length numbers → AreNumbers n (take k numbers) → key_size ≤ length key_out
-    → merge_of k n numbers (chosen slice (take k numbers) ++ rest) key_out ≡ record { answer = Merge.Given; slice = overwrite key key_out }
+    → merge_of k n numbers (chosen slice (take k numbers) ++ rest) key_out ≡ record { answer = Ok tt; slice = overwrite key key_out }
 
 -- "Any k shares give the key back.": of what a split left in its slice, the shares with any k numbers, in any order, and whatever follows them.
 abbrev pub AnySharesGiveTheKey : Type 0
-AnySharesGiveTheKey = (key : List ℕ) (k n : ℕ) (cs out : List ℕ) → Bytes key → Bytes cs → (split_of key k n cs out).answer ≡ Split.Given n
+AnySharesGiveTheKey = (key : List ℕ) (k n : ℕ) (cs out : List ℕ) → Bytes key → Bytes cs → (split_of key k n cs out).answer ≡ Ok n
     → (numbers rest key_out : List ℕ) → k ≤ length numbers → AreNumbers n (take k numbers) → key_size ≤ length key_out
     → merge_of k n numbers (chosen (split_of key k n cs out).slice (take k numbers) ++ rest) key_out
-    ≡ record { answer = Merge.Given; slice = overwrite (take key_size key) key_out }
+    ≡ record { answer = Ok tt; slice = overwrite (take key_size key) key_out }
 
 -- ---- k-1 shares
 
@@ -99,25 +97,25 @@ MergesInterpolate = (n : ℕ) → n ≤ most_shares → (numbers ys : List ℕ) 
 -- ---- the answers
 
 -- A split answers 26, then 28, and leaves the slice as it was; else it gives the number of shares, which stand in front of the slice's tail.
-pub data SplitAnswering (key : List ℕ) (k n : ℕ) (cs out : List ℕ) (x : Outcome SplitAnswer) : Type 0 where
-  out_of_range : ¬ InRange k n → x ≡ record { answer = Split.Refused 26; slice = out } → SplitAnswering key k n cs out x
+pub data SplitAnswering (key : List ℕ) (k n : ℕ) (cs out : List ℕ) (x : Outcome (Result ℕ Refusal)) : Type 0 where
+  out_of_range : ¬ InRange k n → x ≡ record { answer = Err OutOfRange; slice = out } → SplitAnswering key k n cs out x
   too_short : InRange k n → ¬ ((key_size ≤ length key) × (key_size * (k - 1) ≤ length cs) × (key_size * n ≤ length out))
-      → x ≡ record { answer = Split.Refused 28; slice = out } → SplitAnswering key k n cs out x
+      → x ≡ record { answer = Err TooShort; slice = out } → SplitAnswering key k n cs out x
   given : InRange k n → key_size ≤ length key → key_size * (k - 1) ≤ length cs → key_size * n ≤ length out
-      → x ≡ record { answer = Split.Given n; slice = overwrite (shares_of k key cs n) out } → SplitAnswering key k n cs out x
+      → x ≡ record { answer = Ok n; slice = overwrite (shares_of k key cs n) out } → SplitAnswering key k n cs out x
 
 abbrev pub SplitAnswers : Type 0
 SplitAnswers = (key : List ℕ) (k n : ℕ) (cs out : List ℕ) → SplitAnswering key k n cs out (split_of key k n cs out)
 
 -- A merge answers 26, 27, then 28. Where there are fewer than k numbers, 27 is judged on those that are there.
-pub data MergeAnswering (k n : ℕ) (numbers shares out : List ℕ) (x : Outcome MergeAnswer) : Type 0 where
-  out_of_range : ¬ InRange k n → x ≡ record { answer = Merge.Refused 26; slice = out } → MergeAnswering k n numbers shares out x
-  bad-number : InRange k n → ¬ AreNumbers n (take k numbers) → x ≡ record { answer = Merge.Refused 27; slice = out }
+pub data MergeAnswering (k n : ℕ) (numbers shares out : List ℕ) (x : Outcome (Result Unit Refusal)) : Type 0 where
+  out_of_range : ¬ InRange k n → x ≡ record { answer = Err OutOfRange; slice = out } → MergeAnswering k n numbers shares out x
+  bad-number : InRange k n → ¬ AreNumbers n (take k numbers) → x ≡ record { answer = Err BadShareNumber; slice = out }
       → MergeAnswering k n numbers shares out x
   too_short : InRange k n → AreNumbers n (take k numbers) → ¬ ((k ≤ length numbers) × (key_size * k ≤ length shares) × (key_size ≤ length out))
-      → x ≡ record { answer = Merge.Refused 28; slice = out } → MergeAnswering k n numbers shares out x
+      → x ≡ record { answer = Err TooShort; slice = out } → MergeAnswering k n numbers shares out x
   given : InRange k n → AreNumbers n (take k numbers) → k ≤ length numbers → key_size * k ≤ length shares → key_size ≤ length out
-      → x ≡ record { answer = Merge.Given; slice = overwrite (merged_key k numbers shares) out } → MergeAnswering k n numbers shares out x
+      → x ≡ record { answer = Ok tt; slice = overwrite (merged_key k numbers shares) out } → MergeAnswering k n numbers shares out x
 
 abbrev pub MergeAnswers : Type 0
 MergeAnswers = (k n : ℕ) (numbers shares out : List ℕ) → MergeAnswering k n numbers shares out (merge_of k n numbers shares out)

@@ -1,12 +1,10 @@
 -- What trustees can rely on when shares are added, and a set of them is renewed.
-use Rattle.std.specs.Prelude.{◌≡◌, ℕ, suc, ◌+◌, ◌*◌, ◌-◌, ◌≤◌, ◌<◌, length, take, drop}
+use Rattle.std.specs.Prelude.{◌≡◌, ℕ, suc, ◌+◌, ◌*◌, ◌-◌, ◌≤◌, ◌<◌, length, take, drop, Result, Ok, Err}
 use mathlib.Core.List.{List, [], ◌∷◌, ◌++◌, Memᴰ}
 use Rattle.binary.specs.Number.{Bytes, overwrite}
 use Rattle.gf256.specs.Field.{add}
-use Rattle.shares.specs.declared.SplitAnswer.TheVariants as Split
-use Rattle.shares.specs.declared.MergeAnswer.TheVariants as Merge
-use Rattle.shares.specs.declared.AddAnswer.{AddAnswer}
-use Rattle.shares.specs.declared.AddAnswer.TheVariants as Add
+use Rattle.refusals.specs.declared.Refusal.{Refusal}
+use Rattle.refusals.specs.declared.Refusal.TheVariants.{TooShort}
 use Rattle.shares.specs.Polynomial.{eval, values, sums}
 use Rattle.shares.specs.Shares.{key_size, tabulate, merged_key}
 use Rattle.shares.specs.Calls.{Outcome, split_of, merge_of, add_of}
@@ -15,11 +13,11 @@ use Rattle.shares.specs.Claims.{InRange, share_in, chosen, AnyGive, Fewer, IsRun
 -- ---- sums
 
 -- A sum answers 28 where one of the other slices is shorter than the first, and leaves the slice as it was; else the number of bytes.
-pub data AddAnswering (first second out : List ℕ) (x : Outcome AddAnswer) : Type 0 where
-  too_short : ¬ ((length first ≤ length second) × (length first ≤ length out)) → x ≡ record { answer = Add.Refused 28; slice = out }
+pub data AddAnswering (first second out : List ℕ) (x : Outcome (Result ℕ Refusal)) : Type 0 where
+  too_short : ¬ ((length first ≤ length second) × (length first ≤ length out)) → x ≡ record { answer = Err TooShort; slice = out }
       → AddAnswering first second out x
   given : length first ≤ length second → length first ≤ length out
-      → x ≡ record { answer = Add.Given (length first); slice = overwrite (sums first second) out } → AddAnswering first second out x
+      → x ≡ record { answer = Ok (length first); slice = overwrite (sums first second) out } → AddAnswering first second out x
 
 abbrev pub AddAnswers : Type 0
 AddAnswers = (first second out : List ℕ) → AddAnswering first second out (add_of first second out)
@@ -35,30 +33,30 @@ front n slice = take (key_size * n) slice
 -- "shares of two keys, made with the same k and n and added byte for byte in the field, are shares of the two keys' sum": those of a split with the sum
 -- of the coefficients.
 abbrev pub SharesAdd : Type 0
-SharesAdd = (k n : ℕ) (key key' cs cs' out out' : List ℕ) → (split_of key k n cs out).answer ≡ Split.Given n → (split_of key' k n cs' out').answer ≡ Split.Given n
+SharesAdd = (k n : ℕ) (key key' cs cs' out out' : List ℕ) → (split_of key k n cs out).answer ≡ Ok n → (split_of key' k n cs' out').answer ≡ Ok n
     → (sum : List ℕ) → key_size * n ≤ length sum
     → add_of (front n (split_of key k n cs out).slice) (split_of key' k n cs' out').slice sum
-    ≡ record { answer = Add.Given (key_size * n); slice = (split_of (sums key key') k n (sums cs cs') sum).slice }
+    ≡ record { answer = Ok (key_size * n); slice = (split_of (sums key key') k n (sums cs cs') sum).slice }
 
 -- "The merged sum must come out whichever k share numbers are used."
 abbrev pub SummedSharesGiveTheSum : Type 0
 SummedSharesGiveTheSum = (k n : ℕ) (key key' cs cs' out out' : List ℕ) → Bytes key → Bytes key' → Bytes cs → Bytes cs'
-    → (split_of key k n cs out).answer ≡ Split.Given n → (split_of key' k n cs' out').answer ≡ Split.Given n
+    → (split_of key k n cs out).answer ≡ Ok n → (split_of key' k n cs' out').answer ≡ Ok n
     → (sum : List ℕ) → key_size * n ≤ length sum
     → AnyGive k n (add_of (front n (split_of key k n cs out).slice) (split_of key' k n cs' out').slice sum).slice (sums (take key_size key) (take key_size key'))
 
 -- The same of any shares, right or wrong: the merge of the sums is the sum of the merges.
 abbrev pub MergesAdd : Type 0
-MergesAdd = (k n : ℕ) (numbers first second key_out : List ℕ) → Bytes first → Bytes second → (merge_of k n numbers first key_out).answer ≡ Merge.Given
-    → (sum : List ℕ) → (add_of first second sum).answer ≡ Add.Given (length first)
+MergesAdd = (k n : ℕ) (numbers first second key_out : List ℕ) → Bytes first → Bytes second → (merge_of k n numbers first key_out).answer ≡ Ok tt
+    → (sum : List ℕ) → (add_of first second sum).answer ≡ Ok (length first)
     → merge_of k n numbers (add_of first second sum).slice key_out
-    ≡ record { answer = Merge.Given; slice = overwrite (sums (merged_key k numbers first) (merged_key k numbers second)) key_out }
+    ≡ record { answer = Ok tt; slice = overwrite (sums (merged_key k numbers first) (merged_key k numbers second)) key_out }
 
 -- Each trustee can add alone: his share of the sum is the sum of his shares.
 abbrev pub EachAddsAlone : Type 0
-EachAddsAlone = (first second sum : List ℕ) → (add_of first second sum).answer ≡ Add.Given (length first)
+EachAddsAlone = (first second sum : List ℕ) → (add_of first second sum).answer ≡ Ok (length first)
     → (x : ℕ) → 1 ≤ x → key_size * x ≤ length first → (own : List ℕ) → length own ≡ key_size
-    → add_of (share_in first x) (share_in second x) own ≡ record { answer = Add.Given key_size; slice = share_in (add_of first second sum).slice x }
+    → add_of (share_in first x) (share_in second x) own ≡ record { answer = Ok key_size; slice = share_in (add_of first second sum).slice x }
 
 -- ---- renewal
 
@@ -71,10 +69,10 @@ renewed k n room shares zs = (add_of (front n shares) (split_of zero_key k n zs 
 
 -- A renewed set is a set of the same key, split with the sum of the coefficients. So it can be renewed again, and what holds of a split holds of it.
 abbrev pub RenewedIsSplit : Type 0
-RenewedIsSplit = (k n : ℕ) (key cs out : List ℕ) → (split_of key k n cs out).answer ≡ Split.Given n
+RenewedIsSplit = (k n : ℕ) (key cs out : List ℕ) → (split_of key k n cs out).answer ≡ Ok n
     → (zs room : List ℕ) → key_size * (k - 1) ≤ length zs → key_size * n ≤ length room
     → (renewed k n room (split_of key k n cs out).slice zs ≡ (split_of key k n (sums cs zs) room).slice)
-    × ((split_of key k n (sums cs zs) room).answer ≡ Split.Given n)
+    × ((split_of key k n (sums cs zs) room).answer ≡ Ok n)
 
 -- a set after any number of renewals, with these coefficients
 unfoldable pub renewed_by : ℕ → ℕ → List ℕ → List ℕ → List (List ℕ) → List ℕ
@@ -83,7 +81,7 @@ renewed_by k n room shares (zs ∷ zss) = renewed_by k n room (renewed k n room 
 
 -- Renewed as often as one likes, any k shares give the key.
 abbrev pub RenewedSharesGiveTheKey : Type 0
-RenewedSharesGiveTheKey = (k n : ℕ) (key cs out : List ℕ) → Bytes key → Bytes cs → (split_of key k n cs out).answer ≡ Split.Given n
+RenewedSharesGiveTheKey = (k n : ℕ) (key cs out : List ℕ) → Bytes key → Bytes cs → (split_of key k n cs out).answer ≡ Ok n
     → (zss : List (List ℕ)) → ((zs : List ℕ) → Memᴰ zs zss → IsRun (key_size * (k - 1)) zs) → (room : List ℕ) → key_size * n ≤ length room
     → AnyGive k n (renewed_by k n room (split_of key k n cs out).slice zss) (take key_size key)
 

@@ -61,16 +61,14 @@ impl Row for Login {
     }
 }
 
-// The number of used rows.
+// The number of used rows. A sum, and no count of a filter: that has a branch for each row, and a checkpoint takes a quarter longer by it.
 pub fn count_used<T: Row, const N: usize>(rows: [T; N]) -> u8
     requires { N < 256 }
     ensures { result ≡ count T.used rows }
 {
-    let mut n = 0;
+    let mut n: u8 = 0;
     for row in rows {
-        if row.is_used() {
-            n += 1;
-        }
+        n += u8::from(row.is_used());
     }
     n
 }

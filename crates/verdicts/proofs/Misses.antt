@@ -1,35 +1,19 @@
--- The counts of misses: the test of four, and what it tells of each.
+-- The counts of misses: what their test tells of each.
 use mathlib.Core.Path.{◌≡◌, refl}
-use mathlib.Core.Bool.{Bool, true, false, ◌&&◌, and-true, true≢false}
+use mathlib.Core.Bool.{Bool, true, false, ◌&&◌, true≢false}
 use mathlib.Core.List.{List, [], ◌∷◌}
 use Prim.Native.Nat.{ℕ, suc, ◌≤◌, ◌<◌}
 use native.Mathlib.Omega.{arith}
 use lib.Dec.{leb}
-use lib.ListN.{length, get_or}
+use lib.ListN.{get_or}
 use borrow.Author.Tests.{leb-true, leb-false, le-leb}
 use Rattle.lists.specs.Fold.{all}
 use Rattle.lists.proofs.Every.{all_of, all-to, all_set, all_get_d}
-use Rattle.records.specs.Layout.{door_count}
 use Rattle.verdicts.specs.declared.AttemptCounts.{AttemptCounts}
 use Rattle.verdicts.specs.Attempts.{most_misses, misses_at, with_misses, are_in_range}
 
 abbrev pub within : ℕ → Bool
 within m = leb m most_misses
-
--- The four counts, one by one.
-pub four-in-range : (c : AttemptCounts) → length c.misses ≡ door_count
-    → are_in_range c ≡ (within (misses_at 0 c) && (within (misses_at 1 c) && (within (misses_at 2 c) && within (misses_at 3 c))))
-unfolding are_in_range all
-four-in-range c = at c.misses
-  where
-    at : (l : List ℕ) → length l ≡ door_count
-        → all within l ≡ (within (get_or l 0 0) && (within (get_or l 1 0) && (within (get_or l 2 0) && within (get_or l 3 0))))
-    at [] n = absurd (omega arith)
-    at (x ∷ []) n = absurd (omega arith)
-    at (x ∷ y ∷ []) n = absurd (omega arith)
-    at (x ∷ y ∷ z ∷ []) n = absurd (omega arith)
-    at (x ∷ y ∷ z ∷ w ∷ []) n = rw (and-true (within w))
-    at (x ∷ y ∷ z ∷ w ∷ v ∷ l) n = absurd (omega arith)
 
 -- Where they pass, no count is above the most; where they don't, some is.
 pub none_above : (c : AttemptCounts) → are_in_range c ≡ true → (door : ℕ) → misses_at door c ≤ most_misses

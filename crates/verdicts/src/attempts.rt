@@ -9,8 +9,7 @@ use records::layout::DOORS;
 pub fn misses_at(counts: AttemptCounts, door: u8) -> u8
     ensures { result ≡ misses_at door counts }
 {
-    let at = door as usize;
-    if at < DOORS { counts.misses[at] } else { 0 }
+    counts.misses.get(usize::from(door)).copied().unwrap_or(0)
 }
 
 // The counts with so many misses at a door.
@@ -28,15 +27,12 @@ pub fn with_misses(counts: AttemptCounts, door: u8, misses: u8) -> AttemptCounts
 pub fn no_misses() -> AttemptCounts
     ensures { result ≡ no_misses }
 {
-    let misses = [0; DOORS];
-    AttemptCounts { misses }
+    AttemptCounts { misses: [0; DOORS] }
 }
 
 // Whether no count is above the most.
 pub fn are_in_range(counts: AttemptCounts) -> bool
     ensures { result ≡ are_in_range counts }
 {
-    let misses = counts.misses;
-    (misses[0] <= MOST_MISSES)
-        & ((misses[1] <= MOST_MISSES) & ((misses[2] <= MOST_MISSES) & (misses[3] <= MOST_MISSES)))
+    counts.misses.iter().all(|x| *x <= MOST_MISSES)
 }

@@ -1,4 +1,4 @@
-// The own part of a node, its counts of misses, and the lowest number of the table of no for each call.
+// The own part of a node, its counts of misses, and the lowest refusal of the table of no for each call.
 #![tactic(auto)]
 
 mod attempts;
@@ -17,7 +17,8 @@ pub const MOST_MISSES: u8 = 10;
 pub struct Own {
     pub seat: u8,
     pub life: u32,
-    // Whether it voted in this cycle, and the 24 bytes of the announcement that it voted for, zero where it did not.
+    // Whether it voted in this cycle, and the 24 bytes of the announcement that it voted for, zero where it did not. A flag and bytes, and no Option:
+    // Node::deliver and Node::query promise their answer at a node of any flag and bytes, and hand both back.
     pub voted: bool,
     pub vote: [u8; ANNOUNCEMENT_SIZE],
 }

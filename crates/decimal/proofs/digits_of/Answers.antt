@@ -1,11 +1,11 @@
-use Rattle.decimal.proofs.Stored.{stored-none, stored_one, stored-all}
+use Rattle.decimal.proofs.Stored.{stored_one, stored-last, stored-all}
 use Rattle.decimal.proofs.digits_of.Goals as goal
 
-pub loop-rest-init : goal.loop-rest-init
-loop-rest-init c = stored-none _
+pub returns-then-rest-lt10 : goal.returns-then-rest-lt10
+returns-then-rest-lt10 c = (stored-last _ _ _ _ c.loop-from.invariant c.loop-from-test.true c.if-rest-lt10.true).text
 
-pub loop-rest-preserved : goal.loop-rest-preserved
-loop-rest-preserved c = stored_one _ _ _ _ c.loop-rest.invariant c.loop-rest-test.true
+pub loop-from-preserved : goal.loop-from-preserved
+loop-from-preserved c = stored_one _ _ _ _ c.loop-from.invariant c.loop-from-test.true c.if-rest-lt10.false
 
 pub returns : goal.returns
-returns c = stored-all _ _ _ _ c.loop-rest.invariant c.loop-rest-test.false
+returns c = (stored-all _ _ _ _ c.loop-from.invariant c.loop-from-test.false).text

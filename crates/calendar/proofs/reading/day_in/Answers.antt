@@ -15,24 +15,19 @@ day_if d = cond (is_date d) (some (day_of d)) none
 
 read_as : (c : After-date_in-date) → day_in c.args.text.now ≡ day_if c.date_in-date.result
 read_as c =
-    let like = sym c.is_date_like.ensures ∙ c.if-not-is_date_like.false in
-    day-like c.args.text.now c.if-text-ne-DATE_SIZE.false (is-like _ like) ∙ ap day_if (sym c.date_in-date.ensures)
+    let whole = c.in_ok-text.ensures.cases in
+    let like = is-like c.args.text.now (rw whole.same at (sym c.if-not-is_date_like.ensures)) in
+    day-like c.args.text.now whole.long like ∙ ap day_if (rw whole.same at (sym c.date_in-date.ensures))
 
-pub returns-then-text-ne-DATE_SIZE : goal.returns-then-text-ne-DATE_SIZE
-returns-then-text-ne-DATE_SIZE c = sym (not-ten _ c.if-text-ne-DATE_SIZE.true)
+pub returns-in_err-text : goal.returns-in_err-text
+returns-in_err-text c = rw c.from_residual.ensures (sym (not-ten _ c.in_err-text.ensures.cases))
 
 pub returns-then-not-is_date_like : goal.returns-then-not-is_date_like
-returns-then-not-is_date_like c = sym (not-like _ (sym c.is_date_like.ensures ∙ c.if-not-is_date_like.true))
-
-pub date_in-date-requires : goal.date_in-date-requires
-date_in-date-requires c = (c.if-text-ne-DATE_SIZE.false, sym c.is_date_like.ensures ∙ c.if-not-is_date_like.false)
+returns-then-not-is_date_like c =
+    sym (not-like c.args.text.now (rw c.in_ok-text.ensures.cases.same at (sym c.if-not-is_date_like.ensures)))
 
 pub returns-then-not-is_date : goal.returns-then-not-is_date
-returns-then-not-is_date c = rw (read_as (goal.at.returns-then-not-is_date c).After-date_in-date, sym c.is_date.ensures ∙ c.if-not-is_date.true)
-
-pub day_of-requires : goal.day_of-requires
-day_of-requires c = sym c.is_date.ensures ∙ c.if-not-is_date.false
+returns-then-not-is_date c = rw (read_as (goal.at.returns-then-not-is_date c).After-date_in-date, sym c.if-not-is_date.ensures)
 
 pub returns : goal.returns
-returns c =
-    rw (read_as (goal.at.returns c).After-date_in-date, sym c.is_date.ensures ∙ c.if-not-is_date.false, c.day_of.ensures)
+returns c = rw (read_as (goal.at.returns c).After-date_in-date, sym c.if-not-is_date.ensures, c.day_of.ensures)

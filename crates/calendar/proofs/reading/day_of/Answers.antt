@@ -2,18 +2,6 @@ use native.Mathlib.Omega.{arith}
 use Rattle.calendar.proofs.Formulas.{counted}
 use Rattle.calendar.proofs.reading.day_of.Goals as goal
 
-pub overflow_sub-years : goal.overflow_sub-years
-overflow_sub-years c = let t = counted _ c.requires in omega arith
-
-pub overflow_sub-month : goal.overflow_sub-month
-overflow_sub-month c = let t = counted _ c.requires in omega arith
-
-pub overflow_sub-day : goal.overflow_sub-day
-overflow_sub-day c = let t = counted _ c.requires in omega arith
-
-pub days_before-before-requires : goal.days_before-before-requires
-days_before-before-requires c = let t = counted _ c.requires in omega arith
-
 pub overflow_add-result-3 : goal.overflow_add-result-3
 overflow_add-result-3 c = let t = counted _ c.requires in omega arith
 

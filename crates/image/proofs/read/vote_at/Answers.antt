@@ -1,20 +1,15 @@
-use Rattle.records.specs.Layout.{announcement_size}
-use native.Mathlib.Nat.{add-zero, mul-one}
-use mathlib.Core.Path.{refl}
+use Prim.Native.Nat.{◌+◌, ◌-◌, ◌≤◌}
+use mathlib.Core.Path.{◌≡◌, sym, ◌∙◌}
 use native.Mathlib.Omega.{arith}
-use lib.Seq.{get_or-drop}
-use Rattle.binary.specs.Codec.{byte}
-use Rattle.binary.proofs.Rows.{read_none, read_one, read_all}
+use lib.ListN.{length, drop, length-drop}
+use Rattle.records.specs.Layout.{announcement_size}
+use Rattle.image.proofs.OwnParts.{bytes-are}
 use Rattle.image.proofs.read.vote_at.Goals as goal
 
-pub loop-i-init : goal.loop-i-init
-loop-i-init c = read_none byte announcement_size _ _ refl
-
-pub loop-i-preserved : goal.loop-i-preserved
-loop-i-preserved c =
-    let a = c.args in
-    read_one byte announcement_size a.b.now a.at c.loop-i.i c.loop-i.vote _ c.loop-i.invariant (omega arith)
-    (simp (get_or-drop, add-zero, mul-one))
-
 pub returns : goal.returns
-returns c = read_all byte announcement_size _ _ _ c.loop-i.invariant (omega arith)
+returns c =
+    let b = c.args.b.now in
+    let at = c.args.at in
+    let size : at + announcement_size - at ≡ announcement_size = omega arith in
+    let room : announcement_size ≤ length (drop at b) = rw length-drop (omega (arith, c.requires)) in
+    rw size at c.copy_from_slice.ensures.after ∙ sym (bytes-are announcement_size (drop at b) room)

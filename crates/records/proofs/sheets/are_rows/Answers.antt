@@ -12,18 +12,16 @@ pub returns-then-b-i-ge-SEAT_NUMBERS : goal.returns-then-b-i-ge-SEAT_NUMBERS
 returns-then-b-i-ge-SEAT_NUMBERS c =
     let b = c.args.b.now in
     let h : c.loop-i.i < byte_at 6 b = omega arith in
-    sym (c.loop-i.invariant.1 ∙ all-turn _ (rows_of b) c.loop-i.i no_row (rw sheet-rows h) ∙ rw (sheet-row b c.loop-i.i h, le-ltb _ _ c.if-b-i-ge-SEAT_NUMBERS.true))
+    sym (c.loop-i.invariant ∙ all-turn _ (rows_of b) c.loop-i.i no_row (rw sheet-rows h) ∙ rw (sheet-row b c.loop-i.i h, le-ltb _ _ c.if-b-i-ge-SEAT_NUMBERS.true))
 
 pub loop-i-preserved : goal.loop-i-preserved
 loop-i-preserved c =
     let b = c.args.b.now in
-    let h : c.loop-i.i < byte_at 6 b = omega arith in (
-      c.loop-i.invariant.0,
-      c.loop-i.invariant.1 ∙ all-turn _ (rows_of b) c.loop-i.i no_row (rw sheet-rows h) ∙ rw
-          (sheet-row b c.loop-i.i h, lt-ltb _ _ c.if-b-i-ge-SEAT_NUMBERS.false),
-    )
+    let h : c.loop-i.i < byte_at 6 b = omega arith in
+    c.loop-i.invariant ∙ all-turn _ (rows_of b) c.loop-i.i no_row (rw sheet-rows h) ∙ rw
+    (sheet-row b c.loop-i.i h, lt-ltb _ _ c.if-b-i-ge-SEAT_NUMBERS.false)
 
 pub returns : goal.returns
 returns c =
     let b = c.args.b.now in
-    sym (c.loop-i.invariant.1 ∙ all_end _ (rows_of b) c.loop-i.i (rw sheet-rows (omega arith)))
+    sym (c.loop-i.invariant ∙ all_end _ (rows_of b) c.loop-i.i (rw sheet-rows (omega arith)))

@@ -33,4 +33,5 @@ returns-then-is_record c =
 
 pub returns-else-is_record : goal.returns-else-is_record
 unfolding is_sheet
-returns-else-is_record c = rw (le-leb _ _ c.if-n-gt-MOST_ROWS.false, sym c.is_record.ensures ∙ c.if-is_record.false)
+returns-else-is_record c =
+    rw (le-leb _ _ c.if-n-gt-MOST_ROWS.false, sym c.is_record.ensures ∙ c.if-is_record.false) c.if-is_record.false

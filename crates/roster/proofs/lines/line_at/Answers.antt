@@ -1,44 +1,41 @@
 use native.Mathlib.Omega.{arith}
-use mathlib.Core.Path.{sym, ap, ◌∙◌}
 use mathlib.Core.Option.{bind}
-use Rattle.roster.specs.Code.{field_found, line_in}
-use Rattle.roster.proofs.Finding.{rights-below}
+use Rattle.calendar.specs.Text.{day_in}
+use Rattle.roster.specs.Fields.{rights_digits, rights_in}
+use Rattle.roster.specs.Code.{login_at, date_size, value_at}
+use Rattle.roster.proofs.Finding.{line_by, rights_below}
 use Rattle.roster.proofs.lines.line_at.Goals as goal
 
-pub returns-in_default : goal.returns-in_default
-unfolding line_in bind
-returns-in_default c = rw (← c.login_field.ensures, c.in_default.is)
+pub returns-in_err-login : goal.returns-in_err-login
+unfolding bind
+returns-in_err-login c =
+    let login = c.in_err-login.ensures login_at (λ t r e. e) in
+    rw (c.from_residual.ensures, line_by, ← login)
 
-pub returns-in_default-end_field : goal.returns-in_default-end_field
-unfolding line_in bind
-returns-in_default-end_field c =
-    rw (← c.login_field.ensures, c.in-Value.is, ← c.end_field.ensures, c.in_default-end_field.is)
+pub returns-in_err-end : goal.returns-in_err-end
+unfolding bind
+returns-in_err-end c =
+    let login = c.in_ok-login.ensures login_at (λ t r e. e) in
+    let end = c.in_err-end.ensures (value_at date_size day_in) (λ t r e. e) in
+    rw (c.from_residual-in_err-end.ensures, line_by, ← login, ← end)
 
-pub returns-in_default-rights_field : goal.returns-in_default-rights_field
-unfolding line_in bind
-returns-in_default-rights_field c =
-    rw (
-      ← c.login_field.ensures,
-      c.in-Value.is,
-      ← c.end_field.ensures,
-      c.in-Value-end_field.is,
-      ← c.rights_field.ensures,
-      c.in_default-rights_field.is,
-    )
+pub returns-in_err-rights : goal.returns-in_err-rights
+unfolding bind
+returns-in_err-rights c =
+    let login = c.in_ok-login.ensures login_at (λ t r e. e) in
+    let end = c.in_ok-end.ensures (value_at date_size day_in) (λ t r e. e) in
+    let rights = c.in_err-rights.ensures (value_at rights_digits rights_in) (λ t r e. e) in
+    rw (c.from_residual-in_err-rights.ensures, line_by, ← login, ← end, ← rights)
 
 pub overflow_cast-row : goal.overflow_cast-row
 overflow_cast-row c =
-    let below = rights-below _ _ (sym c.rights_field.ensures ∙ ap (field_found _) c.in-Value-rights_field.is) in
+    let below = rights_below _ _ _ (c.in_ok-rights.ensures (value_at rights_digits rights_in) (λ t r e. e)) in
     omega (arith, below)
 
 pub returns : goal.returns
-unfolding line_in bind
+unfolding bind
 returns c =
-    rw (
-      ← c.login_field.ensures,
-      c.in-Value.is,
-      ← c.end_field.ensures,
-      c.in-Value-end_field.is,
-      ← c.rights_field.ensures,
-      c.in-Value-rights_field.is,
-    )
+    let login = c.in_ok-login.ensures login_at (λ t r e. e) in
+    let end = c.in_ok-end.ensures (value_at date_size day_in) (λ t r e. e) in
+    let rights = c.in_ok-rights.ensures (value_at rights_digits rights_in) (λ t r e. e) in
+    rw (line_by, ← login, ← end, ← rights)

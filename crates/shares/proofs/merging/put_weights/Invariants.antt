@@ -3,6 +3,3 @@ use Rattle.shares.proofs.merging.put_weights.Given as goal
 
 abbrev pub invariant-loop-i : goal.invariant-loop-i
 invariant-loop-i l = Weights l.numbers l.i l.weights
-
-abbrev pub decreases-loop-i : goal.decreases-loop-i
-decreases-loop-i l = l.i

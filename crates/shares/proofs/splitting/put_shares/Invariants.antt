@@ -1,12 +1,8 @@
-use mathlib.Core.Path.{◌≡◌}
-use Prim.Native.Nat.{◌-◌, ◌≤◌}
-use lib.ListN.{length}
+use Rattle.std.proofs.Common.{◌≡◌}
 use Rattle.binary.specs.Number.{overwrite}
 use Rattle.shares.specs.Shares.{shares_of}
 use Rattle.shares.proofs.splitting.put_shares.Given as goal
 
 abbrev pub invariant-loop-i : goal.invariant-loop-i
-invariant-loop-i l = (l.i ≤ l.n) × (length l.out ≡ length l.initial.out) × (l.out ≡ overwrite (shares_of l.k l.key l.coefficients l.i) l.initial.out)
-
-abbrev pub decreases-loop-i : goal.decreases-loop-i
-decreases-loop-i l = l.n - l.i
+invariant-loop-i l =
+    l.out ≡ overwrite (shares_of l.polynomials.needed l.polynomials.key.now l.polynomials.coefficients.now l.i) l.initial.out

@@ -1,4 +1,0 @@
-use Rattle.node_c.proofs.partial_keys.add_number.Goals as goal
-
-pub returns-in-Given : goal.returns-in-Given
-returns-in-Given c = rw c.in-Given.is

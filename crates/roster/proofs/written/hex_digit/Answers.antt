@@ -1,8 +1,0 @@
-use borrow.Author.Tests.{lt-ltb, le-ltb}
-use Rattle.roster.proofs.written.hex_digit.Goals as goal
-
-pub returns-then-digit-lt10 : goal.returns-then-digit-lt10
-returns-then-digit-lt10 c = rw (lt-ltb _ _ c.if-digit-lt10.true)
-
-pub returns-else-digit-lt10 : goal.returns-else-digit-lt10
-returns-else-digit-lt10 c = rw (le-ltb _ _ c.if-digit-lt10.false)

@@ -10,18 +10,13 @@ use lib.Dec.{ltb}
 use borrow.Author.Tests.{ltb-true, ltb-false, lt-ltb, le-ltb}
 use lib.Seq.{drop-cons, length-take-le, take-append-le, take-append-add, take-take, drop_at, set_split}
 use Rattle.std.specs.Int.{from_bool}
-use Rattle.std.specs.Prelude.{count_by, position, Option, Some, None}
+use Rattle.std.specs.Prelude.{position, Option, Some, None}
 use Rattle.std.specs.List.{position_or_len, copy_within}
-use Rattle.std.proofs.lemmas.List.Recursion.{is_sum_by}
 use Rattle.lists.specs.Fold.{count}
 use Rattle.lists.specs.Table.{replace_first}
 use Rattle.lists.specs.Code.{index_of, insert_at}
 
 module _ {A : Type 0} (p : A → Bool) where
-  pub count-is : (xs : List A) → count p xs ≡ count_by p xs
-  unfolding count
-  count-is = is_sum_by (count p) (λ x. cond (p x) 1 0) refl (λ _ _. refl)
-
   pub index-is : (xs : List A) → index_of p xs ≡ position_or_len p xs
   unfolding index_of
   index-is [] = refl

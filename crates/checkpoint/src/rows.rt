@@ -167,13 +167,13 @@ pub fn rows_at<T: Stored, const N: usize>(b: &[u8], at: usize) -> [T; N]
     rows
 }
 
-// Writes rows at a position, one after the other.
+// Writes rows at a position, one after the other. By their indices: an iterator borrows the table, and the compiler then copies it.
 pub fn put_rows<T: Stored, const N: usize>(out: &mut [u8], at: usize, rows: [T; N])
     requires { at + N * T.SIZE ≤ length out.old }
     ensures { out.new ≡ splice out.old at (encode_rows T.format rows) }
 {
-    for (i, row) in rows.iter().enumerate() {
-        row.put(out, at + i * T::SIZE);
+    for i in 0..N {
+        rows[i].put(out, at + i * T::SIZE);
     }
 }
 

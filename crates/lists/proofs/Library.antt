@@ -7,40 +7,16 @@ use native.Mathlib.Omega.{arith}
 use native.Mathlib.Numerals.{add-one}
 use lib.ListN.{length, get_or, set, take, drop, drop_of_length-le, length-append}
 use lib.Dec.{ltb}
-use borrow.Author.Tests.{ltb-true, ltb-false}
+use borrow.Author.Tests.{ltb-true, ltb-false, lt-ltb, le-ltb}
 use lib.Seq.{drop-cons, length-take-le, take-append-le, take-append-add, take-take, drop_at, set_split}
 use Rattle.std.specs.Int.{from_bool}
-use Rattle.std.specs.Prelude.{count_by, filter, find, fold, position, unwrap_or, Option, Some, None}
-use Rattle.std.specs.List.{list_any, list_all, position_or_len, copy_within}
-use Rattle.std.proofs.lemmas.List.Recursion.{is_sum_by, same_from_clauses}
-use Rattle.lists.specs.Fold.{any, all, count, first, least}
+use Rattle.std.specs.Prelude.{position, Option, Some, None}
+use Rattle.std.specs.List.{position_or_len, copy_within}
+use Rattle.lists.specs.Fold.{count}
 use Rattle.lists.specs.Table.{replace_first}
 use Rattle.lists.specs.Code.{index_of, insert_at}
 
 module _ {A : Type 0} (p : A → Bool) where
-  pub count-is : (xs : List A) → count p xs ≡ count_by p xs
-  unfolding count
-  count-is = is_sum_by (count p) (λ x. cond (p x) 1 0) refl (λ _ _. refl)
-
-  pub any-is : (xs : List A) → any p xs ≡ list_any p xs
-  unfolding any
-  any-is [] = refl
-  any-is (x ∷ xs) = rw (any-is xs)
-
-  pub all-is : (xs : List A) → all p xs ≡ list_all p xs
-  unfolding all
-  all-is [] = refl
-  all-is (x ∷ xs) = rw (all-is xs)
-
-  pub first-is : (d : A) (xs : List A) → first p d xs ≡ unwrap_or (find p xs) d
-  unfolding first
-  first-is d [] = refl
-  first-is d (x ∷ xs) = at (p x) (first-is d xs)
-    where
-      at : (b : Bool) → first p d xs ≡ unwrap_or (find p xs) d → cond b x (first p d xs) ≡ unwrap_or (cond b (Some x) (find p xs)) d
-      at true h = refl
-      at false h = h
-
   pub index-is : (xs : List A) → index_of p xs ≡ position_or_len p xs
   unfolding index_of
   index-is [] = refl
@@ -64,11 +40,6 @@ pub flag-counted : {A : Type 0} (p : A → Bool) (d : A) (xs : List A) (i n : �
     → count p (drop i xs) ≡ n + count p (drop (i + 1) xs)
 unfolding count
 flag-counted p d xs i n h e = rw (add-one, drop-cons xs i d h, e, flag-number (p (get_or xs i d)))
-
-pub least-is : {A : Type 0} (before : A → A → Bool) (x : A) (xs : List A) → least before x xs ≡ fold (λ y z. cond (before z y) z y) x xs
-unfolding least
-least-is before x [] = refl
-least-is before x (y ∷ ys) = least-is before (cond (before y x) y x) ys
 
 -- the rows from i on moved to the next place, and x in row i
 pub copied-insert : {A : Type 0} (x : A) (l : List A) (i n : ℕ) → length l ≡ suc n → i < suc n → set (copy_within l i n (i + 1)) i x ≡ insert_at i x l
@@ -104,6 +75,17 @@ module _ {A : Type 0} (p : A → Bool) (l : List A) where
       at : (b : Bool) → ltb (position_or_len p l) (length l) ≡ b → cond {A = Option ℕ} b (Some (position_or_len p l)) None ≡ None → length l ≤ index_of p l
       at true h k = cc
       at false h k = let past = ltb-false _ _ h in omega (arith, index-is p l)
+
+  -- and the way back
+  pub some-place : (i : ℕ) → index_of p l ≡ i → i < length l → position p l ≡ Some i
+  some-place i e h =
+      let same : position_or_len p l ≡ i = sym (index-is p l) ∙ e in
+      rw (same, lt-ltb i (length l) h)
+
+  pub none-place : index_of p l ≡ length l → position p l ≡ None
+  none-place e =
+      let same : position_or_len p l ≡ length l = sym (index-is p l) ∙ e in
+      rw (same, le-ltb (length l) (length l) (omega arith))
 
 -- the first row that passes replaced, at its place
 module _ {A : Type 0} (p : A → Bool) (x : A) where

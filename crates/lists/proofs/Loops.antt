@@ -1,17 +1,15 @@
 -- One turn of a loop over a list, and its end, for each fold and each operation on tables. The loop stands at index i of the list.
-use mathlib.Core.Path.{◌≡◌, refl, sym, ap, ◌∙◌}
-use mathlib.Core.Bool.{Bool, true, false, cond, not, ◌&&◌, ◌||◌, false≢true, and-true, and-false}
+use mathlib.Core.Path.{◌≡◌, sym, ap, ◌∙◌}
+use mathlib.Core.Bool.{Bool, true, false, cond, ◌&&◌, ◌||◌}
 use mathlib.Core.List.{List, ◌∷◌, ◌++◌, append_assoc, append-nil}
 use Prim.Native.Nat.{ℕ, suc, ◌+◌, ◌-◌, ◌<◌, ◌≤◌}
 use native.Mathlib.Numerals.{add-one}
-use native.Mathlib.Nat.{sub-zero}
 use native.Mathlib.Omega.{arith}
-use borrow.Author.Tests.{ltb-true, ltb-false}
-use lib.Dec.{leb, ltb}
-use lib.ListN.{length, get_or, take, drop, set, replicate, drop_of_length-le, length-set, length-replicate, take-append-drop}
-use lib.Seq.{drop-cons, take-suc, take-suc-set, drop-set-lt, take_all, set_split, length-take-le, take-append_seam}
+use lib.Dec.{leb}
+use lib.ListN.{length, get_or, take, drop, set, replicate, drop_of_length-le, length-set, take-append-drop}
+use lib.Seq.{drop-cons, take-suc-set, drop-set-lt, take_all, length-take-le, take-append_seam}
 use Rattle.lists.specs.Fold.{any, all, count, first, least}
-use Rattle.lists.specs.Table.{keep, fill, replace_first}
+use Rattle.lists.specs.Table.{keep, fill}
 use Rattle.lists.specs.Code.{leading, index_of, insert_at}
 
 -- A turn, where the element at i passes the test or does not. The value d is that of indices that the list does not have.
@@ -88,21 +86,6 @@ module _ {A : Type 0} (before : A → A → Bool) (x : A) (l : List A) (i : ℕ)
   unfolding least
   least-end h = rw (drop_of_length-le l {i = i} h)
 
--- A loop over n elements whose condition also ends it, once one has passed.
-pub seek-inside : (n i : ℕ) (found : Bool) → (ltb i n && not found) ≡ true → i < n
-seek-inside n i false e = ltb-true i n (sym (and-true (ltb i n)) ∙ e)
-seek-inside n i true e = absurd (false≢true (sym (and-false (ltb i n)) ∙ e))
-
-module _ {A : Type 0} (p : A → Bool) (l : List A) (n : ℕ) (m : length l ≡ n) (i : ℕ) where
-  pub seek-turn : (d : A) (found passes : Bool) → (ltb i n && not found) ≡ true → passes ≡ p (get_or l i d)
-      → any p l ≡ (found || any p (drop i l)) → any p l ≡ (passes || any p (drop (i + 1) l))
-  seek-turn d false passes e q s = rw q (s ∙ any-turn p l i d (omega (arith, m, seek-inside n i false e)))
-  seek-turn d true passes e q s = absurd (false≢true (sym (and-false (ltb i n)) ∙ e))
-
-  pub seek-end : (found : Bool) → (ltb i n && not found) ≡ false → any p l ≡ (found || any p (drop i l)) → found ≡ any p l
-  seek-end true e s = sym s
-  seek-end false e s = sym (s ∙ any-end p l i (omega (arith, m, ltb-false i n (sym (and-true (ltb i n)) ∙ e))))
-
 -- A loop that copies the rows that pass into a table of n unused rows.
 module _ {A : Type 0} (p : A → Bool) (n : ℕ) (z : A) where
   -- out has the rows kept of the first i rows of l, of which there are j, and then unused ones
@@ -111,9 +94,6 @@ module _ {A : Type 0} (p : A → Bool) (n : ℕ) (z : A) where
     pub within : j ≤ i
     pub done : take j out ++ keep p (drop i l) ≡ keep p l
     pub rest : drop j out ≡ replicate (n - j) z
-
-  pub keep-start : (l : List A) → Kept l 0 0 (replicate n z)
-  keep-start l = record { size = length-replicate n z; within = omega arith; done = refl; rest = rw (sub-zero n) }
 
   module _ (l : List A) (i : ℕ) (d : A) (h : i < length l) (m : length l ≤ n) (j : ℕ) (out : List A) (k : Kept l i j out) where
     pub keep-pass : p (get_or l i d) ≡ true → Kept l (i + 1) (j + 1) (set out j (get_or l i d))
@@ -149,34 +129,8 @@ module _ {A : Type 0} (p : A → Bool) (n : ℕ) (z : A) where
       let size : length (keep p l) ≡ j = ap length (sym done) ∙ length-take-le j out jl in
       sym (take-append-drop j out) ∙ rw (done, k.rest, size)
 
--- A loop that replaces the first row that passes.
-module _ {A : Type 0} (p : A → Bool) (x : A) (l : List A) where
-  -- none of the first i rows passes
-  unfoldable pub Passed : ℕ → Type 0
-  Passed i = replace_first p x l ≡ take i l ++ replace_first p x (drop i l)
-
-  pub replace-start : Passed 0
-  unfolding Passed
-  replace-start = refl
-
-  pub replace-pass : (i : ℕ) (d : A) → i < length l → Passed i → p (get_or l i d) ≡ true → set l i x ≡ replace_first p x l
-  unfolding Passed replace_first
-  replace-pass i d h q e = set_split l i x h ∙ sym (q ∙ rw (drop-cons l i d h, e))
-
-  pub replace-fail : (i : ℕ) (d : A) → i < length l → Passed i → p (get_or l i d) ≡ false → Passed (i + 1)
-  unfolding Passed replace_first
-  replace-fail i d h q e = q ∙ rw (add-one, take-suc l i d h, append_assoc, drop-cons l i d h, e)
-
-  pub replace-end : (i : ℕ) → length l ≤ i → Passed i → l ≡ replace_first p x l
-  unfolding Passed replace_first
-  replace-end i h q = sym (q ∙ rw (drop_of_length-le l {i = i} h, take_all i l h, append-nil))
-
--- A loop that moves each row from i on to the next place.
+-- Where no row is left, none is inserted.
 module _ {A : Type 0} (x : A) (l : List A) (i : ℕ) where
-  pub insert-turn : (d : A) → i < length l → insert_at (i + 1) (get_or l i d) (set l i x) ≡ insert_at i x l
-  unfolding insert_at
-  insert-turn d h = rw (add-one, length-set l i x, take-suc-set l i x h, drop-set-lt (suc i) l i x (omega arith), append_assoc, drop-cons l i d h)
-
   pub insert-end : length l ≤ i → insert_at i x l ≡ l
   unfolding insert_at
   insert-end h = rw (take_all i l h) (take-append_seam l _)

@@ -1,13 +1,13 @@
 // The table of logins.
-ghost use Rattle.std.specs.Prelude.{◌≡◌, cond, position};
+ghost use Rattle.std.specs.Prelude.{◌≡◌, cond};
 ghost use Rattle.state.specs.Rows.{is_login};
 ghost use Rattle.tables.specs.Logins.{find_login, is_listed, needs_row, is_earlier, earliest_row, add_login, grant_login, end_login};
 ghost use Rattle.tables.specs.Code.{is_place, eviction_for};
 
 use crate::is_full;
-use crate::rows::without;
+use crate::rows::{first_row, place_of, without};
+use state::Login;
 use state::limits::LOGIN_ROWS;
-use state::{Login, NO_LOGIN};
 
 // Whether a new row of this login takes this row's place or comes before it.
 fn is_place(row: Login, login: u32) -> bool
@@ -20,10 +20,7 @@ fn is_place(row: Login, login: u32) -> bool
 pub fn find_login(rows: [Login; LOGIN_ROWS], login: u32) -> Login
     ensures { result ≡ find_login login rows }
 {
-    rows.iter()
-        .find(|row| row.login == login)
-        .copied()
-        .unwrap_or(NO_LOGIN)
+    first_row(rows, |row: Login| row.login == login)
 }
 
 #[tactic(auto, unfolding(crate::specs::Logins::is_listed))]
@@ -73,19 +70,12 @@ pub fn eviction_for(rows: [Login; LOGIN_ROWS], login: u32) -> Option<Login>
     }
 }
 
-// The index of the row whose place a new row of this login takes, or before which it comes.
-fn place_of(rows: [Login; LOGIN_ROWS], login: u32) -> Option<usize>
-    ensures { result ≡ position (is_place login) rows }
-{
-    rows.iter().position(|row| is_place(*row, login))
-}
-
-// The table with x in the place of the row of its name, or between the others; the last row is then lost.
+// The table with x in the place of the row of its name, or between the others: the last row is then lost.
 fn add_login(rows: [Login; LOGIN_ROWS], x: Login) -> [Login; LOGIN_ROWS]
     ensures { result ≡ add_login x rows }
 {
     let mut out = rows;
-    if let Some(at) = place_of(rows, x.login) {
+    if let Some(at) = place_of(rows, |row| is_place(row, x.login)) {
         if out[at].login != x.login {
             out.copy_within(at..LOGIN_ROWS - 1, at + 1);
         }

@@ -3,9 +3,9 @@ ghost use Rattle.std.specs.Prelude.{◌≡◌};
 ghost use Rattle.lists.specs.Fold.{any};
 ghost use Rattle.tables.specs.Proposals.{is_of_cycle, is_lapsed, is_mature, add_proposal, has_proposal, drop_proposal, drop_lapsed, mature_proposal};
 
-use crate::rows::without;
+use crate::rows::{first_row, has_row, place_of, without};
 use state::limits::PROPOSAL_ROWS;
-use state::{Cycle, Day, NO_PROPOSAL, Notices, Proposal, Subject};
+use state::{Cycle, Day, Notices, Proposal, Subject};
 
 // The greatest number of days from a proposal to the action: it has lapsed on the day after.
 const VALID_DAYS: u32 = 60;
@@ -36,7 +36,7 @@ pub fn add_proposal(rows: [Proposal; PROPOSAL_ROWS], x: Proposal) -> [Proposal; 
     ensures { result ≡ add_proposal x rows }
 {
     let mut out = rows;
-    if let Some(at) = rows.iter().position(|row| !row.is_used()) {
+    if let Some(at) = place_of(rows, |row: Proposal| !row.is_used()) {
         out[at] = x;
     }
     out
@@ -46,7 +46,7 @@ pub fn add_proposal(rows: [Proposal; PROPOSAL_ROWS], x: Proposal) -> [Proposal; 
 pub fn has_proposal(rows: [Proposal; PROPOSAL_ROWS], c: Cycle) -> bool
     ensures { result ≡ has_proposal c rows }
 {
-    rows.iter().any(|row| is_of_cycle(*row, c))
+    has_row(rows, |row| is_of_cycle(row, c))
 }
 
 // The table without the proposal of this cycle.
@@ -60,7 +60,7 @@ pub fn drop_proposal(rows: [Proposal; PROPOSAL_ROWS], c: Cycle) -> [Proposal; PR
 pub fn has_lapsed(rows: [Proposal; PROPOSAL_ROWS], announced: Day) -> bool
     ensures { result ≡ any (is_lapsed announced) rows }
 {
-    rows.iter().any(|row| is_lapsed(*row, announced))
+    has_row(rows, |row| is_lapsed(row, announced))
 }
 
 // The table without the proposals that have lapsed by the announced day.
@@ -79,8 +79,5 @@ pub fn mature_proposal(
 ) -> Proposal
     ensures { result ≡ mature_proposal notices subject announced rows }
 {
-    rows.iter()
-        .find(|row| is_mature(**row, notices, subject, announced))
-        .copied()
-        .unwrap_or(NO_PROPOSAL)
+    first_row(rows, |row| { is_mature(row, notices, subject, announced) })
 }

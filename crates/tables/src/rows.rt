@@ -1,6 +1,7 @@
-// What the tables have in common: the used rows first, and then unused ones, which are one value.
-ghost use Rattle.std.specs.Prelude.{◌≡◌, ◌-◌, ◌<◌, ℕ, Bool, not, get_or};
-ghost use Rattle.lists.specs.Fold.{count};
+// What the tables have in common: the used rows first, and then unused ones, which are one value. The functions go through the rows by value: an
+// iterator borrows the table, and the compiler then copies it (a checkpoint written took 1,140 instructions more).
+ghost use Rattle.std.specs.Prelude.{◌≡◌, ◌-◌, ◌<◌, ℕ, Bool, not, get_or, position, IfSome};
+ghost use Rattle.lists.specs.Fold.{any, count, first};
 ghost use Rattle.lists.specs.Table.{keep, fill};
 ghost use Rattle.state.specs.Rows.{no_proposal, is_proposal, no_login, is_login};
 ghost use Rattle.state.specs.WellFormed.{cycle_of};
@@ -66,7 +67,7 @@ pub fn count_used<T: Row, const N: usize>(rows: [T; N]) -> u8
     ensures { result ≡ count T.used rows }
 {
     let mut n: u8 = 0;
-    for row in &rows {
+    for row in rows {
         n += u8::from(row.is_used());
     }
     n
@@ -78,6 +79,49 @@ pub fn is_full<T: Row, const N: usize>(rows: [T; N]) -> bool
     ensures { result ≡ T.used (get_or rows (N - 1) T.UNUSED) }
 {
     rows[N - 1].is_used()
+}
+
+// The first row that passes, or an unused row.
+pub fn first_row<T: Row, F: Fn(T) -> bool, const N: usize>(rows: [T; N], passes: F) -> T
+    requires { F.IsAlwaysCallable passes }
+    ensures { (p : T → Bool) → ((x : T) (r : Bool) → F.post passes x r → r ≡ p x)
+        → result ≡ first p T.UNUSED rows }
+{
+    for row in rows {
+        if passes(row) {
+            return row;
+        }
+    }
+    T::UNUSED
+}
+
+// Whether a row passes.
+pub fn has_row<T: Row, F: Fn(T) -> bool, const N: usize>(rows: [T; N], passes: F) -> bool
+    requires { F.IsAlwaysCallable passes }
+    ensures { (p : T → Bool) → ((x : T) (r : Bool) → F.post passes x r → r ≡ p x)
+        → result ≡ any p rows }
+{
+    for row in rows {
+        if passes(row) {
+            return true;
+        }
+    }
+    false
+}
+
+// The index of the first row that passes.
+pub fn place_of<T: Row, F: Fn(T) -> bool, const N: usize>(rows: [T; N], passes: F) -> Option<usize>
+    requires { F.IsAlwaysCallable passes }
+    ensures found { (p : T → Bool) → ((x : T) (r : Bool) → F.post passes x r → r ≡ p x)
+        → result ≡ position p rows }
+    ensures within { IfSome result (λ i. i < N) }
+{
+    for i in 0..N {
+        if passes(rows[i]) {
+            return Some(i);
+        }
+    }
+    None
 }
 
 // The table without the rows that are dropped.

@@ -1,4 +1,4 @@
-use Rattle.std.proofs.Common.{◌≡◌, ℕ, ◌*◌, length, arith, sym, ap, ◌∙◌}
+use Rattle.std.proofs.Common.{rules, ◌≡◌, ℕ, ◌*◌, length, arith, sym, ap, ◌∙◌}
 use Rattle.binary.proofs.Rows.{row_within, written_none, written_one}
 use Rattle.checkpoint.proofs.rows.put_rows.Goals as goal
 
@@ -14,5 +14,5 @@ loop-i-preserved g c =
     let wide : c.SIZE.result ≡ f.width = c.SIZE.ensures ∙ sym g.met.T.Stored.wide in
     let room = row_within i g.row.N f.width c.loop-i-test.true in
     let size : g.row.N * f.width ≡ g.row.N * g.T.Stored.SIZE = ap (λ (w : ℕ). g.row.N * w) g.met.T.Stored.wide in
-    written_one f flat g.row.N a.rows a.out.now a.at i c.loop-i.out c.put.new.out c.row-item.result c.loop-i.invariant c.type_inv.row-items c.loop-i-test.true
+    written_one f flat g.row.N a.rows a.out.now a.at i c.loop-i.out c.put.new.out _ c.loop-i.invariant (search rules) c.loop-i-test.true
     (omega (arith, c.requires)) c.put.auto.out (rw wide at c.put.ensures)

@@ -13,7 +13,7 @@ returns-after-out-at c =
     let rows = c.args.rows in
     let at = c.in-Some.at in
     let long : length rows ≡ login_rows = search rules in
-    let place = place-some (is_place x.login) rows at (sym c.place_of.ensures ∙ c.in-Some.is) in
+    let place = place-some (is_place x.login) rows at (sym (c.place_of.ensures.found (is_place x.login) (λ x r k. search rules)) ∙ c.in-Some.is) in
     elim c.if-out-at.branch [
       | then-out-at w ↦ rw (w.out-is, w.copy_within.ensures.after) (copied-insert x rows at 63 long (omega (arith, place.1)) ∙ add-inserts x rows at long place.0 (ne_eqb _ _ w.if-out-at.true))
       | else-out-at w ↦ rw w.out-is (add-replaces x rows at long place.0 (eq-eqb _ _ w.if-out-at.false))
@@ -23,5 +23,5 @@ pub returns-in_default : goal.returns-in_default
 returns-in_default c =
     let x = c.args.x in
     let long : length c.args.rows ≡ login_rows = search rules in
-    let past = place-none (is_place x.login) c.args.rows (sym c.place_of.ensures ∙ c.in_default.is) in
+    let past = place-none (is_place x.login) c.args.rows (sym (c.place_of.ensures.found (is_place x.login) (λ x r k. search rules)) ∙ c.in_default.is) in
     add-full x c.args.rows _ long refl (omega (arith, past))

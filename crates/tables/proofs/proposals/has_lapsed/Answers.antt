@@ -1,12 +1,6 @@
-use Rattle.std.proofs.Common.{rules, tests, sym, ◌∙◌}
-use Rattle.std.proofs.lemmas.Iterator.{YieldsList-from_slice}
-use Rattle.std.proofs.lemmas.Iterator.Search.{any_from_yields_List}
-use Rattle.lists.proofs.Library.{any-is}
+use Rattle.std.proofs.Common.{rules}
 use Rattle.tables.specs.Proposals.{is_lapsed}
 use Rattle.tables.proofs.proposals.has_lapsed.Goals as goal
 
 pub returns : goal.returns
-returns c =
-    let test = is_lapsed c.args.announced in
-    let some = any_from_yields_List test _ _ c.any.result c.any.ensures.ran (YieldsList-from_slice c.args.rows cc) (λ x b q k. search (rules, tests)) in
-    some ∙ sym (any-is test c.args.rows)
+returns c = c.has_row.ensures (is_lapsed c.args.announced) (λ x r k. search rules)

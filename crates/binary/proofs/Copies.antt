@@ -14,9 +14,6 @@ pub record Copied (d₀ : List ℕ) (at : ℕ) (v : List ℕ) (i : ℕ) (d : Lis
   pub same_length : length d ≡ length d₀
   pub copied : d ≡ paste d₀ at v i
 
-pub copied_none : (d : List ℕ) (at : ℕ) (v : List ℕ) → Copied d at v 0 d
-copied_none d at v = record { within = omega arith; same_length = refl; copied = paste-zero d at v }
-
 pub copied-one : (d₀ : List ℕ) (at : ℕ) (v : List ℕ) (i : ℕ) (d : List ℕ) → Copied d₀ at v i d → at + length v ≤ length d₀ → i < length v
     → Copied d₀ at v (i + 1) (set d (at + i) (get_or v i 0))
 copied-one d₀ at v i d h room k = record {

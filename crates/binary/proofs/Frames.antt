@@ -10,6 +10,3 @@ use Rattle.binary.specs.Number.{is_framed, is_record}
 
 pub framed-length : (n : ℕ) (b : List ℕ) → is_framed n b ≡ true → length b ≡ n + 2
 framed-length n b e = let t = simp and-eq-true_iff at e in omega (arith, eqb-true)
-
-pub record-length : (n kind : ℕ) (b : List ℕ) → is_record n kind b ≡ true → length b ≡ n + 2
-record-length n kind b e = let t = simp and-eq-true_iff at e in omega (arith, eqb-true)

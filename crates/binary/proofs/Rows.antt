@@ -116,12 +116,6 @@ module _ {A : Type 0} (f : Codec A) where
         read = rw (add-one, take-suc-set table i x (omega arith), h.read, e', decode_rows-snoc);
       }
 
-  pub read_all : (n : ℕ) (b : List ℕ) (i : ℕ) (table : List A) → RowsRead n b i table → n ≤ i → table ≡ decode_rows f n b
-  read_all n b i table h k =
-      let z = h.size in
-      let q : i ≡ n = omega (arith, h.within) in
-      sym (take_all i table (omega arith)) ∙ h.read ∙ ap (λ (m : ℕ). decode_rows f m b) q
-
   -- the first i of n rows are written to d₀ from index `at` on, which gives d
   pub record RowsWritten (n : ℕ) (table : List A) (d₀ : List ℕ) (at i : ℕ) (d : List ℕ) : Type 0 where
     pub within : i ≤ n

@@ -16,6 +16,8 @@ pub fn size(x: u8) -> usize
     usize::from(x)
 }
 
+// Two, four and eight bytes are read and written by the library's functions of each width. A trait over the widths would be longer than the six bodies.
+
 // The little-endian number of two bytes at a position.
 pub fn u16_at(s: &[u8], at: usize) -> u16
     requires { at + 2 ≤ length s.now }

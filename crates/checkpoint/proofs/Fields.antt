@@ -60,22 +60,6 @@ pub decoded-as : (f : Form) (b : List ℕ) → decode_as f b ≡ in_parts ((head
 unfolding decode_as in_parts
 decoded-as f b = ap (in_parts ((head f.notices).decode (drop head_at b))) (drop-drop (head f.notices).width head_at b)
 
--- The numbers at their places, with the notices that are given.
-pub head_at_lem : (b : List ℕ) (x : Notices) → (head (constant x)).decode (drop head_at b) ≡ record {
-  cycle = cycle (field 4 head_at b);
-  day = day (field 4 (head_at + 4) b);
-  trustees1 = byte_at (head_at + 8) b;
-  trustees2 = byte_at (head_at + 9) b;
-  minima = record { margin = byte_at (head_at + 10) b; least = byte_at (head_at + 11) b; silence = field 2 (head_at + 12) b; notices = x };
-}
-head_at_lem b x =
-    let e₁₂ = after b (drop head_at b) head_at 8 refl in
-    let e₁₃ = after b _ 12 1 e₁₂ in
-    let e₁₄ = after b _ 12 2 e₁₂ in
-    let e₁₅ = after b _ 14 1 e₁₄ in
-    let e₁₆ = after b _ 15 1 e₁₅ in
-    rw (byte-at b _ 12 e₁₂, byte-at b _ 13 e₁₃, byte-at b _ 14 e₁₄, byte-at b _ 15 e₁₅, e₁₆, after b (drop head_at b) head_at 4 refl)
-
 -- and with those that stand behind them
 pub head-noticed : (b : List ℕ) → (head notices).decode (drop head_at b) ≡ (head (constant (notices.decode (drop notices_at b)))).decode (drop head_at b)
 head-noticed b =

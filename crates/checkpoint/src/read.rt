@@ -1,4 +1,4 @@
-// A checkpoint read from a slice.
+// A checkpoint read from a slice: of at least its size, since the parts of an image and of either kind are read where they lie.
 ghost use Rattle.std.specs.Prelude.{◌≡◌, true, ◌≤◌, length, drop};
 ghost use Rattle.state.specs.Seats.{seat_at};
 ghost use Rattle.binary.specs.Codec.{constant};

@@ -1,4 +1,4 @@
-// A checkpoint written to a slice.
+// A checkpoint written to a slice. It may be longer, and keeps its tail, so these take slices of at least its size, and no arrays.
 ghost use Rattle.std.specs.Prelude.{◌≡◌, ◌≤◌, length};
 ghost use Rattle.binary.specs.Number.{overwrite};
 ghost use Rattle.binary.specs.Splice.{splice};

@@ -1,4 +1,4 @@
-// An image read from a slice.
+// An image read from a slice. Its parts are lent as slices of at least their size, as those of a checkpoint are.
 ghost use Rattle.std.specs.Prelude.{◌≡◌, ◌+◌, ◌≤◌, length, drop};
 ghost use Rattle.binary.specs.Codec.{byte, decode_rows};
 ghost use Rattle.records.specs.Layout.{announcement_size};

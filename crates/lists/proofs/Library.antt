@@ -1,20 +1,20 @@
 -- The folds of this crate are the library's, in which the clauses of iterators and slices speak.
 use mathlib.Core.Path.{◌≡◌, refl, sym, ap, ◌∙◌}
 use mathlib.Core.Bool.{Bool, true, false, cond, not}
-use mathlib.Core.List.{List, [], ◌∷◌, ◌++◌, append-nil}
-use Prim.Native.Nat.{ℕ, suc, ◌+◌, ◌-◌, ◌<◌, ◌≤◌}
+use mathlib.Core.List.{List, [], ◌∷◌}
+use Prim.Native.Nat.{ℕ, suc, ◌+◌, ◌<◌, ◌≤◌}
 use native.Mathlib.Omega.{arith}
 use native.Mathlib.Numerals.{add-one}
-use lib.ListN.{length, get_or, set, take, drop, drop_of_length-le, length-append}
+use lib.ListN.{length, get_or, set, drop}
 use lib.Dec.{ltb}
 use borrow.Author.Tests.{ltb-true, ltb-false, lt-ltb, le-ltb}
-use lib.Seq.{drop-cons, length-take-le, take-append-le, take-append-add, take-take, drop_at, set_split}
+use lib.Seq.{drop-cons}
 use Rattle.std.specs.Int.{from_bool}
 use Rattle.std.specs.Prelude.{position, Option, Some, None}
-use Rattle.std.specs.List.{position_or_len, copy_within}
+use Rattle.std.specs.List.{position_or_len}
 use Rattle.lists.specs.Fold.{count}
 use Rattle.lists.specs.Table.{replace_first}
-use Rattle.lists.specs.Code.{index_of, insert_at}
+use Rattle.lists.specs.Code.{index_of}
 
 module _ {A : Type 0} (p : A → Bool) where
   pub index-is : (xs : List A) → index_of p xs ≡ position_or_len p xs
@@ -40,22 +40,6 @@ pub flag-counted : {A : Type 0} (p : A → Bool) (d : A) (xs : List A) (i n : �
     → count p (drop i xs) ≡ n + count p (drop (i + 1) xs)
 unfolding count
 flag-counted p d xs i n h e = rw (add-one, drop-cons xs i d h, e, flag-number (p (get_or xs i d)))
-
--- the rows from i on moved to the next place, and x in row i
-pub copied-insert : {A : Type 0} (x : A) (l : List A) (i n : ℕ) → length l ≡ suc n → i < suc n → set (copy_within l i n (i + 1)) i x ≡ insert_at i x l
-unfolding insert_at
-copied-insert x l i n e h =
-    let p = take (i + 1) l in
-    let q = take (n - i) (drop i l) in
-    let lp : length p ≡ suc i = length-take-le (i + 1) l (omega arith) ∙ add-one i in
-    let none = drop_of_length-le l {i = i + 1 + (n - i)} (omega arith) in
-    let copied : copy_within l i n (i + 1) ≡ p ++ q = rw none (append-nil (p ++ q)) in
-    let left : take i (p ++ q) ≡ take i l = take-append-le i p q (omega arith) ∙ take-take i (i + 1) l (omega arith) in
-    let right : drop (suc i) (p ++ q) ≡ q = drop_at p q (suc i) lp in
-    let behind : set (p ++ q) i x ≡ take i l ++ (x ∷ q) = set_split (p ++ q) i x (rw length-append (omega arith)) ∙ rw (left, right) in
-    let lt = length-take-le i l (omega arith) in
-    let long : length l ≡ length (take i l) + suc (n - i) = omega arith in
-    rw copied (behind ∙ sym (rw long (take-append-add (take i l) (x ∷ drop i l) (suc (n - i)))))
 
 -- where the library finds the first row that passes, and where it finds none
 module _ {A : Type 0} (p : A → Bool) (l : List A) where

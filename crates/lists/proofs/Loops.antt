@@ -129,8 +129,12 @@ module _ {A : Type 0} (p : A → Bool) (n : ℕ) (z : A) where
       let size : length (keep p l) ≡ j = ap length (sym done) ∙ length-take-le j out jl in
       sym (take-append-drop j out) ∙ rw (done, k.rest, size)
 
--- Where no row is left, none is inserted.
+-- A loop that moves each row from i on to the next place.
 module _ {A : Type 0} (x : A) (l : List A) (i : ℕ) where
+  pub insert-turn : (d : A) → i < length l → insert_at (i + 1) (get_or l i d) (set l i x) ≡ insert_at i x l
+  unfolding insert_at
+  insert-turn d h = rw (add-one, length-set l i x, take-suc-set l i x h, drop-set-lt (suc i) l i x (omega arith), append_assoc, drop-cons l i d h)
+
   pub insert-end : length l ≤ i → insert_at i x l ≡ l
   unfolding insert_at
   insert-end h = rw (take_all i l h) (take-append_seam l _)

@@ -9,10 +9,6 @@ use lib.Seq.{length-take-le, take_at, take-nil, take-take, take-add, take-append
 use Rattle.binary.specs.Number.{overwrite}
 use Rattle.binary.specs.Splice.{splice}
 
--- the bytes in front of a part that was lent
-pub front_kept : (a : ℕ) (xs zs : List ℕ) → a ≤ length xs → take a (take a xs ++ zs) ≡ take a xs
-front_kept a xs zs h = take_at (take a xs) zs a (length-take-le a xs h)
-
 -- fewer bytes at the front
 pub shorter-front : (a b : ℕ) (xs ys : List ℕ) → a ≤ b → take b xs ≡ take b ys → take a xs ≡ take a ys
 shorter-front a b xs ys h e = sym (take-take a b xs h) ∙ ap (take a) e ∙ take-take a b ys h

@@ -94,13 +94,6 @@ module _ (b : List ℕ) (h : Bytes b) where
         (λ _. cond_cases (InRange b) (eqb kind kind_end) (λ _. end)
         (λ _. tt)))))))))
 
--- An announcement that is read is 24 bytes long.
-pub announcement-size : (b : List ℕ) (a : Announcement) → read_announcement b ≡ Some a → length b ≡ announcement_size
-unfolding read_announcement
-announcement-size b a =
-    cond_cases (λ (r : Option Announcement). r ≡ Some a → length b ≡ announcement_size) (is_framed announcement_length b)
-    (λ f e. framed-length announcement_length b f) (λ f e. clash (cc))
-
 -- Bytes of another length are none.
 pub other-size : (b : List ℕ) → (length b ≡ announcement_size → ⊥) → read_announcement b ≡ None
 unfolding read_announcement

@@ -25,7 +25,8 @@ impl Action {
         }
     }
 
-    // That of kind 0 where the action needs no notice. No Option: the definitions look for a proposal of this subject too, and find none.
+    // That of kind 0 where the action needs no notice. No Option: an unused row has this subject, so what is found for it is no proposal, and a
+    // caller asks once whether the row is used.
     pub fn subject(self) -> Subject
         ensures { result ≡ subject_of self }
     {
@@ -38,7 +39,8 @@ impl Action {
         }
     }
 
-    // One above the last seat where the action names none.
+    // One above the last seat where the action names none. No Option: an action may name any number, so a caller asks whether it is a seat in either
+    // case.
     pub fn seat(self) -> u8
         ensures { result ≡ seat_of self }
     {

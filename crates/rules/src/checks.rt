@@ -50,7 +50,7 @@ fn present_after(p: u8, flag: bool) -> u8
     if flag { p + 1 } else { p.saturating_sub(1) }
 }
 
-// For each kind: its arguments, of which an action of that kind has some, and their rules.
+// For each kind: its arguments, of which an action of that kind has some, and their rules. Each promises of its kind what the definition says of all.
 #[tactic(auto, unfolding(crate::specs::Rules::check_refusal))]
 pub fn propose_check(s: State, action: Action) -> Result<(), Refusal>
     requires { kind_of action ≡ kind_propose }

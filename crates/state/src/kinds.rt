@@ -1,4 +1,4 @@
-// The kinds of the nine actions.
+// The kinds of the nine actions. Numbers, and no enum: the paper has one decision on the kind number, others refused, and a proposal in a state holds any.
 pub const PROPOSE: u16 = 1;
 
 pub const CANCEL: u16 = 2;

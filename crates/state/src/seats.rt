@@ -5,7 +5,8 @@ ghost use Rattle.state.specs.Seats.{seat_at, is_present, is_active, present_seat
 use crate::limits::SEATS;
 use crate::{NO_SEAT, Seat};
 
-// The standings of a seat.
+// The standings of a seat. Numbers, and no enum: Node::deliver, query, checkpoint and page promise their answers in every state, also in one that holds
+// another number.
 pub const FREE: u8 = 0;
 
 pub const CERTIFIED: u8 = 1;

@@ -1,5 +1,7 @@
 // The table of logins.
-ghost use Rattle.std.specs.Prelude.{◌≡◌, cond};
+ghost use Rattle.std.specs.Prelude.{◌≡◌, ◌<◌, cond};
+ghost use Rattle.lists.specs.Code.{insert_at};
+ghost use Rattle.state.specs.Limits.{login_rows};
 ghost use Rattle.state.specs.Rows.{is_login};
 ghost use Rattle.tables.specs.Logins.{find_login, is_listed, needs_row, is_earlier, earliest_row, add_login, grant_login, end_login};
 ghost use Rattle.tables.specs.Code.{is_place, eviction_for};
@@ -16,7 +18,7 @@ fn is_place(row: Login, login: u32) -> bool
     (row.login == login) | !row.is_used() | (login < row.login)
 }
 
-// The row of the login, or an unused row.
+// The row of the login, or an unused row. No Option: login 0 is that of an unused row, so a caller would ask whether the row is used all the same.
 pub fn find_login(rows: [Login; LOGIN_ROWS], login: u32) -> Login
     ensures { result ≡ find_login login rows }
 {
@@ -70,17 +72,34 @@ pub fn eviction_for(rows: [Login; LOGIN_ROWS], login: u32) -> Option<Login>
     }
 }
 
-// The table with x in the place of the row of its name, or between the others: the last row is then lost.
+// The rows with x before one of them; the last one is then lost. Row by row, and no copy_within: the archive calls no function of C beside memcpy and
+// memset.
+fn insert_row(rows: [Login; LOGIN_ROWS], at: usize, x: Login) -> [Login; LOGIN_ROWS]
+    requires { at < login_rows }
+    ensures { result ≡ insert_at at x rows }
+{
+    let mut out = rows;
+    let mut next = x;
+    for i in at..LOGIN_ROWS {
+        let row = out[i];
+        out[i] = next;
+        next = row;
+    }
+    out
+}
+
+// The table with x in the place of the row of its name, or between the others; the last row is then lost.
 fn add_login(rows: [Login; LOGIN_ROWS], x: Login) -> [Login; LOGIN_ROWS]
     ensures { result ≡ add_login x rows }
 {
-    let mut out = rows;
-    if let Some(at) = place_of(rows, |row| is_place(row, x.login)) {
-        if out[at].login != x.login {
-            out.copy_within(at..LOGIN_ROWS - 1, at + 1);
-        }
-        out[at] = x;
+    let Some(at) = place_of(rows, |row| is_place(row, x.login)) else {
+        return rows;
+    };
+    if rows[at].login != x.login {
+        return insert_row(rows, at, x);
     }
+    let mut out = rows;
+    out[at] = x;
     out
 }
 

@@ -70,7 +70,8 @@ pub fn drop_lapsed(rows: [Proposal; PROPOSAL_ROWS], announced: Day) -> [Proposal
     without(rows, |row| is_lapsed(row, announced))
 }
 
-// The first row of this subject that is mature on the announced day, where these notices are in force, or an unused row.
+// The first row of this subject that is mature on the announced day, where these notices are in force, or an unused row. No Option: an unused
+// row has the subject of kind 0, so a caller would ask whether the row is used all the same.
 pub fn mature_proposal(
     rows: [Proposal; PROPOSAL_ROWS],
     notices: Notices,

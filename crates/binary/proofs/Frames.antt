@@ -6,7 +6,7 @@ use Prim.Native.Nat.{ℕ, ◌+◌}
 use native.Mathlib.Omega.{arith}
 use lib.ListN.{length}
 use borrow.Author.Tests.{eqb-true}
-use Rattle.binary.specs.Number.{is_framed, is_record}
+use Rattle.binary.specs.Number.{is_framed}
 
 pub framed-length : (n : ℕ) (b : List ℕ) → is_framed n b ≡ true → length b ≡ n + 2
 framed-length n b e = let t = simp and-eq-true_iff at e in omega (arith, eqb-true)

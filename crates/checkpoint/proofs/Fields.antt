@@ -11,12 +11,11 @@ use lib.ListN.{length, get_or, drop}
 use lib.Seq.{get_or-drop, drop-drop}
 use borrow.Author.Tests.{eqb-true}
 use Rattle.lists.specs.Fold.{all, count}
-use Rattle.binary.specs.Number.{field, byte_at, is_record}
+use Rattle.binary.specs.Number.{byte_at, is_record}
 use Rattle.binary.specs.Codec.{constant, decode_rows}
 use Rattle.binary.proofs.Rows.{row_at, no_row}
-use Rattle.state.specs.declared.Notices.{Notices}
 use Rattle.state.specs.Limits.{seat_count, proposal_rows, login_rows}
-use Rattle.state.specs.Time.{cycle, day, is_before_cycle}
+use Rattle.state.specs.Time.{cycle, is_before_cycle}
 use Rattle.state.specs.Minima.{is_in_force}
 use Rattle.state.specs.Seats.{free, free_seat, seat_at, present_seats, quorum_of}
 use Rattle.state.specs.Rows.{is_proposal, is_login}

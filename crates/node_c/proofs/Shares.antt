@@ -5,7 +5,6 @@ use Prim.Native.Nat.{ℕ, ◌*◌, ◌%◌}
 use native.Mathlib.Omega.{arith}
 use Rattle.std.specs.Prelude.{Result, Ok}
 use Rattle.refusals.specs.declared.Refusal.{Refusal}
-use Rattle.refusals.specs.Refusals.{number_of}
 use Rattle.shares.specs.Polynomial.{sums}
 use Rattle.shares.specs.Shares.{key_size}
 use Rattle.shares.specs.Calls.{Outcome, split_of}

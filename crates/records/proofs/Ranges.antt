@@ -7,7 +7,7 @@ use mathlib.Core.List.{List}
 use lib.Dec.{eqb, ltb}
 use lib.ListN.{length, drop}
 use borrow.Author.Tests.{eqb-true, ltb-true, leb-true}
-use Rattle.lists.proofs.Tests.{cond_cases, clash}
+use Rattle.lists.proofs.Tests.{cond_cases}
 use Rattle.binary.specs.Number.{Bytes, field, byte_at, is_framed, is_record}
 use Rattle.binary.proofs.Number.{number_fits, bytes_drop}
 use Rattle.binary.proofs.Frames.{framed-length}

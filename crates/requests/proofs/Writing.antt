@@ -1,14 +1,7 @@
 -- Lines: how long a word is.
-use Prim.Native.Nat.{ℕ, ◌+◌, ◌≤◌, ◌<◌}
+use Prim.Native.Nat.{◌≤◌}
 use native.Mathlib.Omega.{arith}
-use native.Mathlib.Nat.{zero-add}
-use mathlib.Core.Path.{◌≡◌, sym, ap, subst, ◌∙◌}
-use mathlib.Core.List.{List}
-use lib.ListN.{length, set, get_or, take, drop, length-append, length-drop}
-use lib.Seq.{paste, length-take-le, drop-paste, get_or-drop, get_or-take}
-use Rattle.binary.specs.Number.{overwrite}
-use Rattle.binary.proofs.Copies.{Copied, copied-one, copied_all}
-use Rattle.binary.proofs.Splices.{splice-overwrite}
+use lib.ListN.{length, length-append}
 use Rattle.decimal.proofs.Stored.{length-decimal}
 use Rattle.requests.specs.declared.Answer.{Answer}
 use Rattle.requests.specs.declared.Answer.TheVariants.{Started, Voted, Done, Open, No}

@@ -9,13 +9,6 @@ ghost use Rattle.binary.specs.Splice.{splice};
 
 pub use frame::{is_framed, is_record};
 
-// A byte as a number of rows or as an index.
-pub fn size(x: u8) -> usize
-    ensures { result ≡ x }
-{
-    usize::from(x)
-}
-
 // Two, four and eight bytes are read and written by the library's functions of each width. A trait over the widths would be longer than the six bodies.
 
 // The little-endian number of two bytes at a position.

@@ -1,4 +1,5 @@
-// Which bytes are a checkpoint. The rows are tested where they lie: each test takes the part of the slice that starts with its table.
+// Which bytes are a checkpoint. The rows are tested where they lie: each test takes the part of the slice that starts with its table, and
+// so no array.
 ghost use Rattle.std.specs.Prelude.{◌≡◌, ◌*◌, ◌≤◌, length};
 ghost use Rattle.lists.specs.Fold.{all};
 ghost use Rattle.binary.specs.Codec.{decode_rows};

@@ -14,7 +14,7 @@ ghost use Rattle.checkpoint.specs.Format.{seat, proposal, login};
 ghost use Rattle.checkpoint.specs.Stored.{seat_long, proposal_long, login_long, proposal_zero, login_zero};
 
 use crate::layout::{LOGIN_SIZE, PROPOSAL_SIZE, SEAT_SIZE};
-use binary::{is_zero_from, put_u8, put_u16, put_u32, put_u64, size, u16_at, u32_at, u64_at};
+use binary::{is_zero_from, put_u8, put_u16, put_u32, put_u64, u16_at, u32_at, u64_at};
 use state::{Cycle, Day, Login, NO_LOGIN, NO_PROPOSAL, NO_SEAT, Proposal, Seat, Subject};
 use tables::Row;
 
@@ -217,5 +217,5 @@ pub fn are_rows<T: Zeroed, F: Fn(T) -> bool, const N: usize>(
         result ≡ (eqb number (count T.used rows) && (rising_from T.used T.key first rows && all (λ r. cond (T.used r) (fine r) (T.blank r)) rows)) }
 {
     let n = leading::<T, F, N>(table, first, passes);
-    (size(number) == n) & is_zero_from(n * T::SIZE, &table[..N * T::SIZE])
+    (usize::from(number) == n) & is_zero_from(n * T::SIZE, &table[..N * T::SIZE])
 }

@@ -17,7 +17,7 @@ fn with_digit(value: u64, c: u8) -> u64
     10 * value + ((c - b'0') as u64)
 }
 
-// Reads the digits at a position, up to as many as told.
+// Reads the digits at a position, up to as many as told. The position may lie past the end, so it is no part of the text that a caller would cut.
 pub fn number_at(text: &[u8], at: usize, most: usize) -> Number
     requires { most ≤ most_read }
     ensures value { (result.value, drop result.end text.now) ≡ digits_in most 0 (drop at text.now) }

@@ -20,7 +20,7 @@ const OUTPUT: usize = 65536;
 // The greatest number of 64 bits.
 const LAST_ORDINAL: u64 = 18446744073709551615;
 
-// What is kept from request to request.
+// What is kept from request to request. The three flags are no types of a state: any may be set beside any other, and Turned speaks of each.
 #[derive(Clone, Copy)]
 struct Run {
     node: Node,
@@ -39,7 +39,7 @@ struct Run {
     failed: bool,
 }
 
-// Up to where a buffer holds input, and whether a read gave nothing.
+// Up to where a buffer holds input, and whether a read gave nothing: both are told in either case.
 #[derive(Clone, Copy)]
 struct Filled {
     to: usize,
@@ -122,25 +122,16 @@ fn answer(run: Run, input: &[u8], output: &mut [u8]) -> Run
     requires ordinal_lt_last_ordinal { run.ordinal < last_ordinal }
     ensures { Answered run input.now output.old result output.new }
 {
-    let from = run.from;
-    let to = run.to;
-    let held = run.node;
-    let step = take_step(held, &input[from..to]);
-    let node = step.node;
-    let state = node.state;
-    let cycle = state.cycle;
-    let given = step.answer;
-    let pending = put_line(output, run.pending, run.ordinal, given, cycle.0);
-    let next = from + step.used;
+    let step = take_step(run.node, &input[run.from..run.to]);
+    let cycle = step.node.state.cycle;
+    let pending = put_line(output, run.pending, run.ordinal, step.answer, cycle.0);
     Run {
-        node: node,
+        node: step.node,
         ordinal: run.ordinal + 1,
-        from: next,
-        to: to,
-        exhausted: run.exhausted,
-        pending: pending,
+        from: run.from + step.used,
+        pending,
         ends: step.ends,
-        failed: run.failed,
+        ..run
     }
 }
 

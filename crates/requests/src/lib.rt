@@ -38,6 +38,6 @@ pub struct Step {
     pub answer: Answer,
     // The bytes of the request.
     pub used: usize,
-    // A record was cut or out of its place.
+    // A record was cut or out of its place. A flag, and no case of the answer: this answer is printed as any other is.
     pub ends: bool,
 }

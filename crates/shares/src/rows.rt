@@ -1,5 +1,6 @@
-// Rows: the 32 bytes of a share, or of the key, in the slice that is handed out, so that no copy of them is left on the stack. Each step goes through
-// a row byte by byte, so that no byte waits for the one before it.
+// Rows: the 32 bytes of a share, or of the key, in the slice that is handed out, so that no copy of them is left on the stack. It is
+// a part of a longer slice: as an array it would first be an Option. Each step goes through a row byte by byte, so that no byte waits for the one
+// before it.
 ghost use Rattle.std.specs.Prelude.{◌≡◌, ◌*◌, ◌≤◌, ◌<◌, length};
 ghost use Rattle.binary.specs.Number.{byte_at};
 ghost use Rattle.gf256.specs.Field.{add, mul as mul_of};

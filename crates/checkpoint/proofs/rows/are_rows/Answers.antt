@@ -20,4 +20,4 @@ returns g c = λ fine answers.
     let test : ZeroTest f spare = record { passes = g.met.T.Zeroed.zero } in
     let zero : c.is_zero_from.result ≡ all spare (drop c.leading-n.result rows) =
     c.is_zero_from.ensures ∙ rw (wide, wide2) (sym (rows-zero test g.row.N c.leading-n.result b)) in
-    rw (c.size.ensures, zero, leads) (sym front)
+    rw (c.from.ensures, zero, leads) (sym front)

@@ -111,7 +111,7 @@ pub fn is_current(b: &[u8]) -> bool
         && is_body(head_in(b, notices_in(b)), &b[TABLES_AT..])
 }
 
-// The same for the earlier kind.
+// The same for the earlier kind. One function over both would be handed length, kind, place of the tables and a reader of the notices, and be no shorter.
 fn is_earlier(b: &[u8]) -> bool
     ensures { result ≡ is_of earlier b.now }
 {

@@ -1,4 +1,5 @@
-// Numbers written in decimal, and read.
+// Numbers written in decimal to a slice at a position, and read. No Display: a contract knows what a format writes to a String alone, and memory is
+// fixed.
 #![tactic(auto)]
 
 mod reading;

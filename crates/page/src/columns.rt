@@ -1,4 +1,5 @@
-// The columns of a line, each with the character behind it.
+// The columns of a line, each with the character behind it, written to a slice at a position. No Display: a contract knows what a format writes to a
+// String alone, and memory is fixed.
 ghost use Rattle.std.specs.Prelude.{◌≡◌, ◌+◌, ◌≤◌, ◌<◌, length};
 ghost use Rattle.binary.specs.Splice.{splice};
 ghost use Rattle.state.specs.Limits.{right_count};

@@ -1,4 +1,4 @@
-// The line of an answer.
+// The line of an answer, written to a slice at a position. No Display: a contract knows what a format writes to a String alone, and memory is fixed.
 ghost use Rattle.std.specs.Prelude.{◌≡◌, ◌+◌, ◌≤◌, length};
 ghost use Rattle.binary.specs.Splice.{splice};
 ghost use Rattle.requests.specs.declared.Answer.TheVariants.{No};

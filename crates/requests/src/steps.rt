@@ -23,7 +23,7 @@ fn cut(n: Node) -> Step
 {
     Step {
         node: n,
-        answer: Answer::No(1),
+        answer: Answer::No(Refusal::Malformed.number()),
         used: 0,
         ends: true,
     }

@@ -35,7 +35,7 @@ fn present_without(seat: Seat, p: u8) -> u8
     p.saturating_sub(u8::from(seat.is_present()))
 }
 
-// The standing that kind 3 asks for.
+// The standing that kind 3 asks for: the other one than it gives (`given_standing` in actions). Each is a line, in the crate whose definition says it.
 fn fit_standing(flag: bool) -> u8
     ensures { result ≡ cond flag certified present }
 {

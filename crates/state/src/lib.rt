@@ -108,6 +108,7 @@ pub const NO_LOGIN: Login = Login {
     rights: 0,
 };
 
+// Day and Cycle have the same helper each, and no trait in common: the paper has each with its own, and never compares the one with the other.
 impl Day {
     // The days from the earlier day up to this one, 0 where that day is later.
     pub fn since(self, earlier: Day) -> u32

@@ -88,7 +88,8 @@ fn seat_and_life(seat: u8, life: u32) -> u64
     (seat as u64) + 256 * (life as u64)
 }
 
-// The subject of each action that needs a notice, and that of any other.
+// The subject of each action that needs a notice, and that of any other: one function for each, as the definitions have it, though the first and the
+// last differ in the kind alone.
 pub fn certifies(seat: u8, life: u32) -> Subject
     ensures { result ≡ certifies seat life }
 {

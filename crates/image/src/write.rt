@@ -25,12 +25,23 @@ fn put_own(out: &mut [u8], own: Own, counts: AttemptCounts)
     put_bytes(out, COUNTS_AT, &counts.misses);
 }
 
+// Writes the checkpoint's bytes that are at hand to the front of a slice. Byte by byte, and no copy_from_slice: for these two slices the compiler makes it a call
+// of memmove, and the archive calls no function of C beside memcpy and memset.
+fn put_state(out: &mut [u8], state: &[u8])
+    requires { length state.now ≤ length out.old }
+    ensures { out.new ≡ splice out.old 0 state.now }
+{
+    for i in 0..state.len() {
+        out[i] = state[i];
+    }
+}
+
 // Writes an image to the front of a slice, the state as the checkpoint's bytes that are at hand.
 pub fn put_image(state: &[u8], own: Own, counts: AttemptCounts, out: &mut [u8])
     requires { (length state.now ≡ checkpoint_size) × (image_size ≤ length out.old) }
     ensures { out.new ≡ overwrite (with_own state.now own counts) out.old }
 {
-    put_bytes(out, 0, state);
+    put_state(out, state);
     put_own(out, own, counts);
 }
 

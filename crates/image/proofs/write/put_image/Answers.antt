@@ -7,5 +7,5 @@ use Rattle.image.proofs.write.put_image.Goals as goal
 pub returns : goal.returns
 returns c =
     let d = c.args.out.now in
-    then-put d _ _ _ _ 0 own_at c.put_own.ensures c.put_bytes.ensures.out_after (omega (arith, c.requires)) (omega (arith, c.requires))
+    then-put d _ _ _ _ 0 own_at c.put_own.ensures c.put_state.ensures (omega (arith, c.requires)) (omega (arith, c.requires))
     ∙ splice-overwrite d _

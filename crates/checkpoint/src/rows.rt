@@ -216,6 +216,7 @@ pub fn are_rows<T: Zeroed, F: Fn(T) -> bool, const N: usize>(
         → let rows = decode_rows T.format N table.now in
         result ≡ (eqb number (count T.used rows) && (rising_from T.used T.key first rows && all (λ r. cond (T.used r) (fine r) (T.blank r)) rows)) }
 {
+    let size = T::SIZE;
     let n = leading::<T, F, N>(table, first, passes);
-    (usize::from(number) == n) & is_zero_from(n * T::SIZE, &table[..N * T::SIZE])
+    (usize::from(number) == n) & is_zero_from(n * size, &table[..N * size])
 }

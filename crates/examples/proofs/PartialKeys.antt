@@ -54,6 +54,7 @@ partial-key-examples = record {
   one-wrong = merges-to (share3 ++ changed 2 share1) room (changed 3 key) refl refl refl;
   two-wrong = merges-to (changed 3 share3 ++ changed 1 share1) room key refl refl refl;
   interchanged = refl;
+  rows = refl;
   out_of_range = refl;
   merges-out-of-range = refl;
   bad-numbers = refl;

@@ -18,6 +18,7 @@ unfolding calls-by-value bind number_from months_days years_days day_of is_date 
 roster-examples = record {
   read = refl;
   grants = refl;
+  rows = refl;
   too_short = refl;
   malformed-first = refl;
   empty = refl;

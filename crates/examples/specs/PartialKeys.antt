@@ -3,6 +3,7 @@ use Rattle.std.specs.Prelude.{◌≡◌, List, [], ◌∷◌, ◌++◌, map, ℕ
 use Rattle.gf256.specs.Field.{add}
 use Rattle.refusals.specs.declared.Refusal.{Refusal}
 use Rattle.refusals.specs.declared.Refusal.TheVariants.{OutOfRange, BadShareNumber, TooShort}
+use Rattle.refusals.specs.Refusals.{number_of}
 use Rattle.shares.specs.Calls.{split_of, merge_of}
 
 -- the bytes 1, 2, .., 32
@@ -51,6 +52,8 @@ pub record PartialKeyExamples : Type 0 where
   pub two-wrong : merge_of 2 3 (3 ∷ 1 ∷ []) (changed 3 share3 ++ changed 1 share1) room ≡ record { answer = Ok tt; slice = key }
   -- shares under numbers that are not theirs
   pub interchanged : (merge_of 2 3 (1 ∷ 3 ∷ []) (share3 ++ share1) room).answer ≡ Ok tt
+  -- the numbers of the three rows
+  pub rows : map number_of (OutOfRange ∷ BadShareNumber ∷ TooShort ∷ []) ≡ 26 ∷ 27 ∷ 28 ∷ []
   -- 26
   pub out_of_range : (splits 1 3 [] ∷ splits 2 17 [] ∷ splits 3 2 [] ∷ splits 0 0 [] ∷ []) ≡ replicate 4 (Err OutOfRange)
   pub merges-out-of-range : (merges 1 3 (0 ∷ []) ∷ merges 17 17 [] ∷ merges 4 3 [] ∷ []) ≡ replicate 3 (Err OutOfRange)

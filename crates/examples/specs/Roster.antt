@@ -6,6 +6,7 @@ use Rattle.state.specs.Time.{day, cycle}
 use Rattle.records.specs.declared.Action.TheVariants.{Grant, End}
 use Rattle.refusals.specs.declared.Refusal.{Refusal}
 use Rattle.refusals.specs.declared.Refusal.TheVariants.{BadRoster, NoRosterRoom}
+use Rattle.refusals.specs.Refusals.{number_of}
 use Rattle.roster.specs.Roster.{roster_in}
 use Rattle.roster.specs.Calls.{import_of, export_of}
 use Rattle.examples.specs.Records.{announce}
@@ -89,6 +90,8 @@ pub record RosterExamples : Type 0 where
   -- "cycles rising by one from a given one", "a longer one keeps its tail"
   pub grants : import_of two_lines (cycle 7) (day 101) (replicate 49 0)
       ≡ record { answer = Ok 2; slice = announce 7 101 (Grant row501) ++ (announce 8 101 (Grant last_row) ++ (0 ∷ [])) }
+  -- the numbers of the two rows
+  pub rows : map number_of (BadRoster ∷ NoRosterRoom ∷ []) ≡ 24 ∷ 25 ∷ []
   -- "24 comes before 25."
   pub too_short : (import_of two_lines (cycle 7) (day 101) (replicate 47 0)).answer ≡ Err NoRosterRoom
   pub malformed-first : (import_of cr_lf (cycle 7) (day 101) []).answer ≡ Err BadRoster

@@ -16,7 +16,9 @@ use roster::{export_grant, import_roster};
 use state::{Cycle, Day, State};
 use verdicts::{AttemptCounts, Own};
 
-// The numbers of the refusals that an export makes of itself.
+// What an export returns of itself: that a node is handed out which started or performed, and its refusals.
+const DONE: u32 = 0;
+
 const MALFORMED: u32 = 1;
 
 const BAD_SHEET: u32 = 2;
@@ -63,7 +65,7 @@ fn hand_out(state: State, own: Own, counts: AttemptCounts, out: &mut [u8]) -> u3
         return NO_ROOM;
     }
     write_image(state, own, counts, out);
-    0
+    DONE
 }
 
 pub fn node_start(checkpoint: &[u8], start: &[u8], out: &mut [u8]) -> u32

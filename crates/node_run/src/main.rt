@@ -125,10 +125,11 @@ fn answer(run: Run, input: &[u8], output: &mut [u8]) -> Run
     let step = take_step(run.node, &input[run.from..run.to]);
     let cycle = step.node.state.cycle;
     let pending = put_line(output, run.pending, run.ordinal, step.answer, cycle.0);
+    let next = run.from + step.used;
     Run {
         node: step.node,
         ordinal: run.ordinal + 1,
-        from: run.from + step.used,
+        from: next,
         pending,
         ends: step.ends,
         ..run

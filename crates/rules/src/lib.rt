@@ -20,7 +20,7 @@ use crate::checks::{
     propose_check, rejoin_check, remove_check,
 };
 use records::{Action, Announcement};
-use refusals::{Refusal, lowest, refuse_if};
+use refusals::{Refusal, lowest_refusal, refuse_if};
 use state::kinds::{CANCEL, CERTIFY, END, GRANT, MINIMA, PRESENTS, PROPOSE, REJOIN, REMOVE};
 use state::limits::LAST_CYCLE;
 use state::seats::{present_seats, seat_at};
@@ -106,7 +106,7 @@ fn refusal(
     ensures { number_in result ≡ (number_in unsigned or_else lowest (number_in unnoticed) (number_in unfit)) }
 {
     unsigned?;
-    lowest(unnoticed, unfit)
+    lowest_refusal(unnoticed, unfit)
 }
 
 // Rules 8 to 14. One decision on the kind number: each kind names the level of its trustees and its check; others are malformed. Whether

@@ -95,18 +95,18 @@ pub fn first_row<T: Row, F: Fn(T) -> bool, const N: usize>(rows: [T; N], passes:
     T::UNUSED
 }
 
-// Whether a row passes.
+// Whether a row passes. The end of the loop ends the search, and no exit from it: unrolled with exits, it has copies of the state in deliver made row by
+// row.
 pub fn has_row<T: Row, F: Fn(T) -> bool, const N: usize>(rows: [T; N], passes: F) -> bool
     requires { F.IsAlwaysCallable passes }
     ensures { (p : T → Bool) → ((x : T) (r : Bool) → F.post passes x r → r ≡ p x)
         → result ≡ any p rows }
 {
+    let mut found = false;
     for row in rows {
-        if passes(row) {
-            return true;
-        }
+        found |= passes(row);
     }
-    false
+    found
 }
 
 // The index of the first row that passes.

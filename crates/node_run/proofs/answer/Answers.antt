@@ -4,8 +4,8 @@ use native.Mathlib.Nat.{lt_of_le_of_lt}
 use native.Mathlib.Omega.{arith}
 use Rattle.node_run.proofs.answer.Goals as goal
 
-pub overflow_add-result-2 : goal.overflow_add-result-2
-overflow_add-result-2 c =
+pub overflow_add-next : goal.overflow_add-next
+overflow_add-next c =
     let a = c.args in
     let u = used-in a.run.node a.input.now a.run.from a.run.to _ c.requires.fits.0 c.requires.fits.1.0 c.take_step-step.ensures in
     record { fits = lt_of_le_of_lt u (omega arith) }

@@ -1,26 +1,19 @@
-use Rattle.std.proofs.Common.{refl}
-use Prim.Native.Nat.{◌≤◌, ◌<◌}
-use native.Mathlib.Omega.{arith}
-use borrow.Author.Tests.{lt-ltb, le-ltb}
-use Rattle.refusals.specs.Refusals.{number_of, lowest}
-use Rattle.refusals.proofs.Table.{alone, lower}
+use Rattle.lists.proofs.Cases.{cases}
+use Rattle.refusals.specs.Refusals.{lowest}
 use Rattle.refusals.proofs.lowest.Goals as goal
 
-pub returns-in-Ok-default : goal.returns-in-Ok-default
+pub returns-then-a-eq0 : goal.returns-then-a-eq0
 unfolding lowest
-returns-in-Ok-default c = rw c.in-Ok-default.is-0 refl
+returns-then-a-eq0 c = search cases
 
-pub returns-in-Err-Ok : goal.returns-in-Err-Ok
-returns-in-Err-Ok c = let p = c.in-Err-Ok in rw p.is-0 (rw p.is-1 (rw (alone p.field-0-0) refl))
+pub returns-then-b-eq0 : goal.returns-then-b-eq0
+unfolding lowest
+returns-then-b-eq0 c = search cases
 
-pub returns-then-number : goal.returns-then-number
-returns-then-number c =
-    let p = c.in-Err-Err in
-    let h : number_of p.x < number_of p.y = omega arith in
-    rw (p.is-0, p.is-1, lower p.x p.y, lt-ltb _ _ h)
+pub returns-then-a-b : goal.returns-then-a-b
+unfolding lowest
+returns-then-a-b c = search cases
 
-pub returns-else-number : goal.returns-else-number
-returns-else-number c =
-    let p = c.in-Err-Err in
-    let h : number_of p.y ≤ number_of p.x = omega arith in
-    rw (p.is-0, p.is-1, lower p.x p.y, le-ltb _ _ h)
+pub returns-else-a-b : goal.returns-else-a-b
+unfolding lowest
+returns-else-a-b c = search cases

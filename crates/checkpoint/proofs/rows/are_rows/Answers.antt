@@ -15,9 +15,8 @@ returns g c = λ fine answers.
     let spare = is_spare g.T.Row.used g.T.Zeroed.blank in
     let front = counted-front g.T.Row.used g.T.Row.key fine g.T.Zeroed.blank c.args.number c.args.first rows in
     let leads = c.leading-n.ensures.leads (is_filled g.T.Row.used fine) answers in
-    let wide : c.SIZE.result ≡ f.width = c.SIZE.ensures ∙ sym g.met.T.Stored.wide in
-    let wide2 : c.SIZE-2.result ≡ f.width = c.SIZE-2.ensures ∙ sym g.met.T.Stored.wide in
+    let wide : c.SIZE-size.result ≡ f.width = c.SIZE-size.ensures ∙ sym g.met.T.Stored.wide in
     let test : ZeroTest f spare = record { passes = g.met.T.Zeroed.zero } in
     let zero : c.is_zero_from.result ≡ all spare (drop c.leading-n.result rows) =
-    c.is_zero_from.ensures ∙ rw (wide, wide2) (sym (rows-zero test g.row.N c.leading-n.result b)) in
+    c.is_zero_from.ensures ∙ rw wide (sym (rows-zero test g.row.N c.leading-n.result b)) in
     rw (c.from.ensures, zero, leads) (sym front)

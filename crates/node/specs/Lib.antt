@@ -5,7 +5,7 @@ pub mod QueryAnswer
 pub mod CheckpointAnswer
 pub mod PageAnswer
 pub mod Reply
-pub mod Code
+pub mod Replies
 pub mod Answers
 pub mod Deliver
 pub mod Query

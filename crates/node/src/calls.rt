@@ -1,6 +1,6 @@
 // The calls, by value: each consumes the node and hands back the next one with its answer.
 ghost use Rattle.std.specs.Prelude.{◌≡◌};
-ghost use Rattle.node.specs.Code.{reply, start_answer, deliver_answer, query_answer, checkpoint_answer, page_answer};
+ghost use Rattle.node.specs.Replies.{reply, start_answer, deliver_answer, query_answer, checkpoint_answer, page_answer};
 ghost use Rattle.node.specs.Deliver.{leaves, votes, deliver_of};
 ghost use Rattle.node.specs.Query.{query_of};
 ghost use Rattle.node.specs.Start.{blank_node, refuses_start, start_read, start_of};

@@ -3,7 +3,7 @@ ghost use Rattle.std.specs.Prelude.{◌≡◌, true, ◌<◌};
 ghost use Rattle.refusals.specs.Refusals.{number_of, number_in};
 ghost use Rattle.verdicts.specs.Attempts.{most_misses, misses_at};
 ghost use Rattle.node.specs.Query.{adds_miss, answered, ask_of};
-ghost use Rattle.node.specs.Code.{query_answer, counted_answer};
+ghost use Rattle.node.specs.Replies.{query_answer, counted_answer};
 
 use crate::CountedAnswer;
 use records::read_query;

@@ -5,7 +5,7 @@ use Rattle.std.specs.Prelude.{Result, Ok, Err}
 use Rattle.refusals.specs.declared.Refusal.{Refusal}
 use Rattle.refusals.specs.Refusals.{number_in}
 use Rattle.node.specs.Answers.{start_number, query_number, checkpoint_number}
-use Rattle.node.specs.Code.{start_answer, query_answer, checkpoint_answer, page_answer}
+use Rattle.node.specs.Replies.{start_answer, query_answer, checkpoint_answer, page_answer}
 use Rattle.node_c.specs.Calls.{page_returned, value_returned}
 
 pub start-is : (x : Result (Unit {0}) Refusal) → start_number (start_answer x) ≡ number_in x

@@ -2,7 +2,7 @@
 ghost use Rattle.std.specs.Prelude.{◌≡◌};
 ghost use Rattle.refusals.specs.Refusals.{number_in};
 ghost use Rattle.node.specs.Answers.{deliver_number};
-ghost use Rattle.node.specs.Code.{deliver_answer};
+ghost use Rattle.node.specs.Replies.{deliver_answer};
 ghost use Rattle.node_c.specs.Calls.{value_returned};
 
 use node::Delivered;

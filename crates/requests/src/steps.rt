@@ -1,6 +1,6 @@
 // The request at the front of the input, answered.
 ghost use Rattle.std.specs.Prelude.{◌≡◌, ◌≤◌, length};
-ghost use Rattle.node.specs.Code as by_value;
+ghost use Rattle.node.specs.Replies as by_value;
 ghost use Rattle.requests.specs.Requests.{is_none, cuts, answers, deliver_answer, query_answer, after_start, step_start, step_deliver, step_query, step_of};
 
 use crate::framing::{frame, is_announcement, is_checkpoint_kind, is_query};

@@ -1,4 +1,4 @@
--- Words of the code's contracts: the paper's answer for each that the code gives. Nothing of the paper.
+-- What the code hands back, read as the paper has it: the paper's answer, with its number, for each that the code gives.
 use Rattle.std.specs.Prelude.{ℕ, Result, Ok, Err}
 use Rattle.refusals.specs.declared.Refusal.{Refusal}
 use Rattle.refusals.specs.Refusals.{number_of}
